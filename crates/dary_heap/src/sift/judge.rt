@@ -1,0 +1,143 @@
+//! Comparisons that are counted.
+ghost use Rattle.std.specs.Prelude.{◌≡◌, ℕ, ◌+◌, ◌-◌, ◌^◌, min};
+ghost use Rattle.std.specs.declared.cmp.Ordering.{Ordering};
+ghost use Rattle.std.specs.Ordering.{is_le};
+ghost use Rattle.std.specs.Cmp.{IsTotalOrder};
+ghost use Rattle.std.specs.Borrow.{ftrue};
+
+use std::marker::Model;
+
+/// A number that only clauses read. It takes no bytes.
+#[derive(Drop)]
+pub struct Count {
+    pub ghost value: { ℕ },
+}
+
+impl Model for Count {
+    ghost also_owns = { λ _. ftrue };
+}
+
+// It owns nothing.
+unsafe impl Send for Count {}
+
+unsafe impl Sync for Count {}
+
+impl Count {
+    pub(crate) fn new() -> Count
+        ensures { result.value ≡ 0 }
+    {
+        Count {}
+    }
+
+    pub(crate) fn add_one(&mut self)
+        ensures { self.new.value ≡ self.old.value + 1 }
+    {}
+}
+
+/// What compares items: it has an order on them, and a count of the comparisons that it made.
+///
+/// The order is one for the type, total and transitive. The count is each value's own. Only
+/// clauses read the two.
+pub trait Judge<T> {
+    /// The order by which it judges.
+    ghost order: { T → T → Ordering };
+
+    /// How many comparisons it made so far.
+    ghost count: { Self → ℕ };
+
+    /// Answers whether `a` is at most `b` in the order. This is one comparison.
+    fn at_most(&mut self, a: &T, b: &T) -> bool
+        ensures answer { result ≡ is_le (order a.now b.now) }
+        ensures counted { count self.new ≡ count self.old + 1 };
+
+    /// The order is total, transitive and lawful on ties.
+    ghost total: { IsTotalOrder order };
+}
+
+/// Judges by `Ord`. Its count takes no bytes.
+///
+/// A clause sees it as the number of its comparisons.
+#[derive(Drop)]
+pub struct ByOrd {
+    count: Count,
+}
+
+impl Model for ByOrd {
+    ghost Value = { ℕ };
+
+    ghost view = { λ judge. judge.count.value };
+}
+
+impl ByOrd {
+    /// A judge that made no comparison yet.
+    pub fn new() -> ByOrd
+        ensures { result ≡ 0 }
+    {
+        ByOrd {
+            count: Count::new(),
+        }
+    }
+}
+
+impl<T: Ord> Judge<T> for ByOrd {
+    ghost order = { T.cmp };
+
+    ghost count = { λ judge. judge };
+
+    ghost total = { T.total };
+
+    fn at_most(&mut self, a: &T, b: &T) -> bool {
+        self.count.add_one();
+        a.cmp(b).is_le()
+    }
+}
+
+/// Judges by `Ord`, and keeps its count at run time too.
+///
+/// A clause sees it as the number of its comparisons.
+#[derive(Drop)]
+pub struct Tally {
+    made: u64,
+    count: Count,
+}
+
+impl Model for Tally {
+    ghost Value = { ℕ };
+
+    ghost view = { λ tally. tally.count.value };
+
+    ghost invariant = { λ tally. tally.made ≡ min tally.count.value (2 ^ 64 - 1) };
+}
+
+impl Tally {
+    /// A judge that made no comparison yet.
+    pub fn new() -> Tally
+        ensures { result ≡ 0 }
+    {
+        Tally {
+            made: 0,
+            count: Count::new(),
+        }
+    }
+
+    /// How many comparisons it made so far. The answer stays at `u64::MAX` where there were more.
+    pub fn made(&self) -> u64
+        ensures { result ≡ min self.now u64.MAX }
+    {
+        self.made
+    }
+}
+
+impl<T: Ord> Judge<T> for Tally {
+    ghost order = { T.cmp };
+
+    ghost count = { λ tally. tally };
+
+    ghost total = { T.total };
+
+    fn at_most(&mut self, a: &T, b: &T) -> bool {
+        self.count.add_one();
+        self.made = self.made.saturating_add(1);
+        a.cmp(b).is_le()
+    }
+}
