@@ -1,3 +1,4 @@
+pub mod Asking
 pub mod Depth
 pub mod Drifting
 pub mod Exchange
@@ -5,4 +6,6 @@ pub mod Order
 pub mod Place
 pub mod Rising
 pub mod Row
+pub mod Runs
+pub mod Serving
 pub mod Written

@@ -1,7 +1,12 @@
 -- Bounds on comparisons. They speak of numbers alone. D is the const parameter.
-use Rattle.std.specs.Prelude.{ℕ, zero, suc, ◌+◌, ◌-◌, ◌*◌, ◌/◌, max, min, nat_lt, if◌then◌else◌, ◌==◌, List, [], ◌∷◌, length, Some}
+use Rattle.std.specs.Prelude.{ℕ, zero, suc, ◌+◌, ◌-◌, ◌*◌, ◌/◌, ◌≤◌, max, min, nat_lt, if◌then◌else◌, ◌==◌, List, [], ◌∷◌, length, Some}
 use Rattle.dary_heap.specs.HeapOrder.{arity, depth}
 use Rattle.dary_heap.specs.Machine.{Act, Command, Reply, Write, Refresh, Push, Pop, PopIf, Extend, Append, Retain, DrainSorted, Loan, Pushed, Popped, Done, Taken, Loaned}
+
+-- a count that was old is new after at most so many comparisons
+pub record RisesWithin (old new bound : ℕ) : Type 0 where
+  pub rises : old ≤ new
+  pub within : new ≤ old + bound
 
 -- a push onto n items: the depth of the new place
 abbrev pub push_bound : ℕ → ℕ → ℕ

@@ -5,4 +5,5 @@ pub mod Contents
 pub mod HeapOrder
 pub mod Machine
 pub mod Reading
+pub mod Run
 pub mod Sifting

@@ -1,6 +1,6 @@
 -- The bag machine: what each command may reply, and the bag that it leaves. It knows no arity, no vector and no memory:
 -- a reply that stands for want of memory is a step wherever the other conditions on it hold.
-use Rattle.std.specs.Prelude.{◌≡◌, ◌≢◌, ◌⊎◌, ℕ, zero, suc, ◌<◌, Bool, true, false, ◌-◌, List, [], ◌∷◌, ◌++◌, length, take, Option, Some, None}
+use Rattle.std.specs.Prelude.{◌≡◌, ◌≢◌, ◌⊎◌, ℕ, zero, suc, ◌<◌, Bool, true, false, List, [], ◌∷◌, ◌++◌, length, take, Option, Some, None}
 use Rattle.std.specs.List.Retain.{IsFiltered}
 use Rattle.std.specs.declared.cmp.Ordering.{Ordering}
 use Rattle.dary_heap.specs.Bag.{IsSameBag, IsGreatest, HasGreater}
@@ -121,16 +121,3 @@ module _ {T P : Type 0} (cmp : T → T → Ordering) (answers : P → T → Bool
 abbrev pub last_bag : {T : Type 0} → List T → List (List T) → List T
 last_bag old [] = old
 last_bag old (new ∷ later) = last_bag new later
-
--- So many pushes are sure to reply `Pushed`. A `Reserve(n)` that replied `Done` makes n pushes sure, and
--- any command that isn't a push, a pop, a question or a reserve makes none sure.
-abbrev pub PushesServed : {T P : Type 0} → ℕ → List (Command T P) → List (Reply T) → Type 0
-PushesServed sure [] [] = Unit {0}
-PushesServed sure (Push x ∷ commands) (reply ∷ replies) = (0 < sure → reply ≡ Pushed) × PushesServed (sure - 1) commands replies
-PushesServed sure (Pop ∷ commands) (reply ∷ replies) = PushesServed sure commands replies
-PushesServed sure (PopIf p ∷ commands) (reply ∷ replies) = PushesServed sure commands replies
-PushesServed sure (Ask p ∷ commands) (reply ∷ replies) = PushesServed sure commands replies
-PushesServed sure (Len ∷ commands) (reply ∷ replies) = PushesServed sure commands replies
-PushesServed sure (Reserve n ∷ commands) (Done ∷ replies) = PushesServed n commands replies
-PushesServed sure (command ∷ commands) (reply ∷ replies) = PushesServed 0 commands replies
-PushesServed sure commands replies = ⊥

@@ -1,8 +1,8 @@
 //! The heap.
-ghost use Rattle.std.specs.Prelude.{◌≡◌, ◌+◌, ◌-◌, ◌<◌, ◌≤◌, ◌↔◌, [], ◌∷◌, ℕ, length, slice_get, vec_capacity, Some, IsSome, IfSome, OnOk, OnErr, IfErr, IsOk, is_ok, if◌then◌else◌, ◌==◌};
+ghost use Rattle.std.specs.Prelude.{◌≡◌, ◌+◌, ◌-◌, ◌<◌, ◌≤◌, ◌↔◌, [], ◌∷◌, ℕ, length, slice_get, vec_capacity, Some, IsSome, IfSome, IfNone, OnOk, OnErr, IfErr, IsOk, is_ok, if◌then◌else◌, ◌==◌};
 ghost use Rattle.std.specs.Option.{option_copied};
 ghost use Rattle.dary_heap.specs.Bag.{IsSameBag, IsGreatest};
-ghost use Rattle.dary_heap.specs.Bounds.{push_bound, pop_bound};
+ghost use Rattle.dary_heap.specs.Bounds.{RisesWithin, push_bound, pop_bound};
 ghost use Rattle.dary_heap.specs.Contents.{Contents};
 ghost use Rattle.dary_heap.specs.HeapOrder.{IsHeapOrdered};
 
@@ -86,6 +86,7 @@ impl<T: Ord, const D: usize> DaryHeap<T, D> {
         ensures variant { IsSome result ↔ (0 < length self.now.items) }
         ensures first { option_copied result ≡ slice_get self.now.items 0 }
         ensures greatest { IfSome result (λ item. IsGreatest T.cmp self.now.items item.now) }
+        ensures ordered { IsHeapOrdered T.cmp D self.now.items }
     {
         self.items.as_slice().first()
     }
@@ -93,7 +94,8 @@ impl<T: Ord, const D: usize> DaryHeap<T, D> {
     /// Adds an item.
     pub fn push(&mut self, item: T) -> Result<(), T>
         ensures bag { OnOk result (IsSameBag (item ∷ self.old.items) self.new.items) }
-        ensures counted { OnOk result (self.new.comparisons ≤ self.old.comparisons + push_bound D (length self.old.items)) }
+        ensures counted { OnOk result (RisesWithin self.old.comparisons self.new.comparisons (push_bound D (length self.old.items))) }
+        ensures ordered { IsHeapOrdered T.cmp D self.new.items }
         ensures capacity { self.old.capacity ≤ self.new.capacity }
 
         // It is refused only where the heap is full, and then nothing has changed.
@@ -111,8 +113,12 @@ impl<T: Ord, const D: usize> DaryHeap<T, D> {
         ensures first { result ≡ slice_get self.old.items 0 }
         ensures greatest { IfSome result (IsGreatest T.cmp self.old.items) }
         ensures bag { IfSome result (λ item. IsSameBag self.old.items (item ∷ self.new.items)) }
-        ensures counted { self.new.comparisons ≤ self.old.comparisons + pop_bound D (length self.old.items) }
+        ensures ordered { IsHeapOrdered T.cmp D self.new.items }
+        ensures counted { RisesWithin self.old.comparisons self.new.comparisons (pop_bound D (length self.old.items)) }
         ensures capacity { self.new.capacity ≡ self.old.capacity }
+
+        // Where there is no item nothing changes.
+        ensures unchanged { IfNone result (self.new ≡ self.old) }
     {
         pop_with::<T, ByOrd, D>(&mut self.items, &mut self.judge)
     }

@@ -1,12 +1,11 @@
 //! Lists of commands, and the replies to them.
-ghost use Rattle.std.specs.Prelude.{◌≡◌, ◌+◌, ◌-◌, ◌<◌, ◌≤◌, ◌∷◌, [], ◌++◌, ℕ, List, length, All, IfOk, IfErr, OnOk, Some};
-ghost use Rattle.std.specs.Fn.{CalledAt, TakesAt};
+ghost use Rattle.std.specs.Prelude.{◌≡◌, ◌++◌, ◌∷◌, [], All, IfOk, IfErr};
+ghost use Rattle.std.specs.Fn.{CalledAt};
 ghost use Rattle.dary_heap.specs.Asking.{IsCallableOn, items_in, predicates_in};
-ghost use Rattle.dary_heap.specs.Bounds.{charge, charges};
-ghost use Rattle.dary_heap.specs.Contents.{Contents};
 ghost use Rattle.dary_heap.specs.HeapOrder.{IsHeapOrdered};
-ghost use Rattle.dary_heap.specs.Machine.{Step, Run, PushesServed, last_bag};
-ghost use Rattle.dary_heap.specs.Reading.{command as read_command, reply as read_reply, commands as read_commands, replies as read_replies};
+ghost use Rattle.dary_heap.specs.Machine as machine;
+ghost use Rattle.dary_heap.specs.Reading as read;
+ghost use Rattle.dary_heap.specs.Run.{Runs, Serves};
 
 use crate::heap::DaryHeap;
 use std::alloc::Global;
@@ -29,7 +28,7 @@ pub enum Command<T: Ord, const D: usize, P> {
 pub enum Reply<T: Ord, const D: usize> {
     /// The item was added.
     Pushed,
-    /// There was no memory for the item.
+    /// There was no memory for the item, which comes back.
     PushRefused(T),
     /// The item that was taken out, if there was one.
     Popped(Option<T>),
@@ -45,47 +44,48 @@ pub fn run<T: Ord + Drop, const D: usize, P: FnMut(&T) -> bool>(
     heap: &mut DaryHeap<T, D>,
     commands: Vec<Command<T, D, P>>,
 ) -> Result<Vec<Reply<T, D>>, Vec<Command<T, D, P>>>
-    requires { All (IsCallableOn P.FnMut (heap.old.items ++ items_in (read_commands commands.items))) (predicates_in (read_commands commands.items)) }
+    requires { All (IsCallableOn P.FnMut (heap.old.items ++ items_in (read.commands commands.items))) (predicates_in (read.commands commands.items)) }
 
     // The replies and the items are a run of the bag machine, within its charges.
-    ensures run { IfOk result (λ replies. (bags : List (List T)) × Run T.cmp (CalledAt P.FnMut) heap.old.items (read_commands commands.items) (read_replies replies.items) bags × (last_bag heap.old.items bags ≡ heap.new.items) × (heap.new.comparisons ≤ heap.old.comparisons + charges D heap.old.items (read_commands commands.items) (read_replies replies.items) bags)) }
-    ensures served { IfOk result (λ replies. PushesServed (heap.old.capacity - length heap.old.items) (read_commands commands.items) (read_replies replies.items)) }
+    ensures runs { IfOk result (λ replies. Runs T.cmp (CalledAt P.FnMut) D heap.old (read.commands commands.items) (read.replies replies.items) heap.new) }
     ensures ordered { IsHeapOrdered T.cmp D heap.new.items }
 
-    // Without room for the replies nothing is done.
-    ensures refused { IfErr result (λ back. (back.items ≡ commands.items) × (heap.new ≡ heap.old)) }
+    // Without memory for the replies nothing is done.
+    ensures returned { IfErr result (λ back. back.items ≡ commands.items) }
+    ensures unchanged { IfErr result (λ back. heap.new ≡ heap.old) }
 {
+    // It ensures that the heap is ordered, also where there is no command.
+    let _ = heap.as_slice();
     let Ok(mut replies) = Vec::with_capacity(alloc, commands.len()) else {
         return Err(commands);
     };
     for command in commands {
-        replies.push_reserved(step(heap, command));
+        replies.push_reserved(serve(heap, command));
     }
     Ok(replies)
 }
 
 /// Carries one command out.
-fn step<T: Ord + Drop, const D: usize, P: FnMut(&T) -> bool>(
+fn serve<T: Ord + Drop, const D: usize, P: FnMut(&T) -> bool>(
     heap: &mut DaryHeap<T, D>,
     command: Command<T, D, P>,
 ) -> Reply<T, D>
-    requires { All (IsCallableOn P.FnMut heap.old.items) (predicates_in (read_command command ∷ [])) }
-    ensures step { Step T.cmp (CalledAt P.FnMut) heap.old.items (read_command command) (read_reply result) heap.new.items }
-    ensures charged { heap.new.comparisons ≤ heap.old.comparisons + charge D (length heap.old.items) (read_command command) (read_reply result) (length heap.new.items) }
-    ensures served { PushesServed (heap.old.capacity - length heap.old.items) (read_command command ∷ []) (read_reply result ∷ []) }
-    ensures capacity { heap.old.capacity ≤ heap.new.capacity }
-    ensures ordered { IsHeapOrdered T.cmp D heap.new.items }
+    requires { All (IsCallableOn P.FnMut heap.old.items) (predicates_in (read.command command ∷ [])) }
+    ensures { Serves T.cmp (CalledAt P.FnMut) D heap.old (read.command command) (read.reply result) heap.new }
 {
     match command {
-        Command::Push(item) => push(heap, item),
-        Command::Pop => Reply::Popped(heap.pop()),
+        Command::Push(item) => push::<T, D, P>(heap, item),
+        Command::Pop => pop::<T, D, P>(heap),
         Command::Ask(predicate) => ask(heap, predicate),
-        Command::Len => Reply::Len(heap.len()),
+        Command::Len => len::<T, D, P>(heap),
     }
 }
 
-fn push<T: Ord, const D: usize>(heap: &mut DaryHeap<T, D>, item: T) -> Reply<T, D>
-    ensures ordered { IsHeapOrdered T.cmp D heap.new.items }
+fn push<T: Ord, const D: usize, P: FnMut(&T) -> bool>(
+    heap: &mut DaryHeap<T, D>,
+    item: T,
+) -> Reply<T, D>
+    ensures { Serves T.cmp (CalledAt P.FnMut) D heap.old (machine.Push item) (read.reply result) heap.new }
 {
     match heap.push(item) {
         Ok(()) => Reply::Pushed,
@@ -93,12 +93,27 @@ fn push<T: Ord, const D: usize>(heap: &mut DaryHeap<T, D>, item: T) -> Reply<T, 
     }
 }
 
-/// Asks the predicate about the item that a look at the heap shows.
+fn pop<T: Ord, const D: usize, P: FnMut(&T) -> bool>(heap: &mut DaryHeap<T, D>) -> Reply<T, D>
+    ensures { Serves T.cmp (CalledAt P.FnMut) D heap.old machine.Pop (read.reply result) heap.new }
+{
+    Reply::Popped(heap.pop())
+}
+
 fn ask<T: Ord, const D: usize, P: FnMut(&T) -> bool>(
     heap: &DaryHeap<T, D>,
     mut predicate: P,
 ) -> Reply<T, D>
     requires { IsCallableOn P.FnMut heap.now.items predicate }
+    ensures { Serves T.cmp (CalledAt P.FnMut) D heap.now (machine.Ask predicate) (read.reply result) heap.now }
 {
-    Reply::Asked(heap.peek().map(predicate))
+    match heap.peek() {
+        Some(item) => Reply::Asked(Some(predicate(item))),
+        None => Reply::Asked(None),
+    }
+}
+
+fn len<T: Ord, const D: usize, P: FnMut(&T) -> bool>(heap: &DaryHeap<T, D>) -> Reply<T, D>
+    ensures { Serves T.cmp (CalledAt P.FnMut) D heap.now machine.Len (read.reply result) heap.now }
+{
+    Reply::Len(heap.as_slice().len())
 }

@@ -1,0 +1,53 @@
+-- What one command of many asks of the caller, and what it brings in.
+use Rattle.std.proofs.Common.{◌≡◌, ℕ, Bool, List, [], ◌∷◌, ◌++◌, All, Contains, refl, sym, ap, ◌∙◌, subst, append_assoc}
+use Rattle.std.proofs.lemmas.List.Elements.{All-nil, All-cons, All-head, All-tail, All-weaker, Contains-append_left, Contains-append_right}
+use Rattle.std.specs.Fn.{Mut}
+use denote.Ref.{Bor}
+use Rattle.dary_heap.specs.Asking.{IsCallableOn, items_in, predicates_in, written}
+use Rattle.dary_heap.specs.Machine as machine
+use Rattle.dary_heap.specs.Machine.{Command}
+
+All-front : {X : Type 0} (Q : X → Type 0) (xs ys : List X) → All Q (xs ++ ys) → All Q xs
+All-front Q [] ys h = All-nil Q
+All-front Q (x ∷ xs) ys h = All-cons Q x xs (All-head Q x (xs ++ ys) h) (All-front Q xs ys (All-tail Q x (xs ++ ys) h))
+
+All-back : {X : Type 0} (Q : X → Type 0) (xs ys : List X) → All Q (xs ++ ys) → All Q ys
+All-back Q [] ys h = h
+All-back Q (x ∷ xs) ys h = All-back Q xs ys (All-tail Q x (xs ++ ys) h)
+
+module _ {T P : Type 0} where
+  items_in-append : (xs ys : List (Command T P)) → items_in (xs ++ ys) ≡ items_in xs ++ items_in ys
+  items_in-append [] ys = refl
+  items_in-append (machine.Push x ∷ xs) ys = ap (λ zs. x ∷ zs) (items_in-append xs ys)
+  items_in-append (machine.Extend zs ∷ xs) ys = ap (λ us. zs ++ us) (items_in-append xs ys) ∙ sym (append_assoc zs (items_in xs) (items_in ys))
+  items_in-append (machine.Append zs ∷ xs) ys = ap (λ us. zs ++ us) (items_in-append xs ys) ∙ sym (append_assoc zs (items_in xs) (items_in ys))
+  items_in-append (machine.Loan acts end ∷ xs) ys = ap (λ us. written acts ++ us) (items_in-append xs ys) ∙ sym (append_assoc (written acts) (items_in xs) (items_in ys))
+  items_in-append (command ∷ xs) ys = items_in-append xs ys
+
+  predicates_in-append : (xs ys : List (Command T P)) → predicates_in (xs ++ ys) ≡ predicates_in xs ++ predicates_in ys
+  predicates_in-append [] ys = refl
+  predicates_in-append (machine.PopIf p ∷ xs) ys = ap (λ zs. p ∷ zs) (predicates_in-append xs ys)
+  predicates_in-append (machine.Ask p ∷ xs) ys = ap (λ zs. p ∷ zs) (predicates_in-append xs ys)
+  predicates_in-append (machine.Retain p ∷ xs) ys = ap (λ zs. p ∷ zs) (predicates_in-append xs ys)
+  predicates_in-append (command ∷ xs) ys = predicates_in-append xs ys
+
+  -- the items of one command are among those of all
+  pub items_of_one : (before : List (Command T P)) (command : Command T P) (after : List (Command T P)) (x : T) → Contains (items_in (command ∷ [])) x → Contains (items_in (before ++ (command ∷ after))) x
+  items_of_one before command after x in' =
+      subst (λ xs. Contains xs x) (sym (items_in-append before (command ∷ after)))
+      (Contains-append_right (items_in before) _ x
+        (subst (λ xs. Contains xs x) (sym (items_in-append (command ∷ []) after)) (Contains-append_left (items_in (command ∷ [])) (items_in after) x in')))
+
+  module _ (calls : Mut P (Bor T × Unit {0}) Bool) where
+    pub IsCallableOn-fewer : (pool items : List T) (p : P) → ((x : T) → Contains items x → Contains pool x) → IsCallableOn calls pool p → IsCallableOn calls items p
+    IsCallableOn-fewer pool items p among h = record { in_turn = λ xs in'. h.in_turn xs (λ x here. among x (in' x here)) }
+
+    -- the predicates of one command may be called where those of all may be
+    pub callable_one : (pool items : List T) (before : List (Command T P)) (command : Command T P) (after : List (Command T P)) → ((x : T) → Contains items x → Contains pool x) → All (IsCallableOn calls pool) (predicates_in (before ++ (command ∷ after))) → All (IsCallableOn calls items) (predicates_in (command ∷ []))
+    callable_one pool items before command after among h =
+        let split = predicates_in-append before (command ∷ after) in
+        let later = predicates_in-append (command ∷ []) after in
+        All-weaker (IsCallableOn calls pool) (IsCallableOn calls items) (λ p. IsCallableOn-fewer pool items p among) _
+        (All-front (IsCallableOn calls pool) (predicates_in (command ∷ [])) (predicates_in after)
+          (subst (All (IsCallableOn calls pool)) later
+            (All-back (IsCallableOn calls pool) (predicates_in before) _ (subst (All (IsCallableOn calls pool)) split h))))

@@ -1,0 +1,82 @@
+-- A run goes on by one command.
+use Rattle.std.proofs.Common.{◌≡◌, ℕ, ◌+◌, ◌-◌, ◌<◌, ◌≤◌, Bool, List, [], ◌∷◌, ◌++◌, length, Contains, refl, sym, ap, ◌∙◌, subst, arith}
+use Rattle.std.specs.declared.cmp.Ordering.{Ordering}
+use Rattle.dary_heap.specs.Bounds.{RisesWithin, charge, charges}
+use Rattle.dary_heap.specs.Contents.{Contents}
+use Rattle.dary_heap.specs.Machine as machine
+use Rattle.dary_heap.specs.Machine.{Command, Reply, Step, Run, last_bag}
+use Rattle.dary_heap.specs.Run.{IsServed, PushesServed, Runs, Serves, room, sure_after}
+
+-- how many pushes are sure after a run before which so many were
+abbrev pub sure_at_end : {T P : Type 0} → ℕ → List (Command T P) → List (Reply T) → ℕ
+sure_at_end sure (command ∷ commands) (reply ∷ replies) = sure_at_end (sure_after sure command reply) commands replies
+sure_at_end sure commands replies = sure
+
+last_bag-more : {T : Type 0} (old new : List T) (bags : List (List T)) → last_bag old (bags ++ new ∷ []) ≡ new
+last_bag-more old new [] = refl
+last_bag-more old new (bag ∷ bags) = last_bag-more bag new bags
+
+module _ {T P : Type 0} (cmp : T → T → Ordering) (answers : P → T → Bool → P → Type 0) where
+  Run-more : (old new : List T) (commands : List (Command T P)) (replies : List (Reply T)) (bags : List (List T)) (command : Command T P) (reply : Reply T) → Run cmp answers old commands replies bags → Step cmp answers (last_bag old bags) command reply new → Run cmp answers old (commands ++ command ∷ []) (replies ++ reply ∷ []) (bags ++ new ∷ [])
+  Run-more old new [] [] [] command reply run step = (step, tt)
+  Run-more old new [] [] (bag ∷ bags) command reply run step = absurd run
+  Run-more old new [] (r ∷ replies) bags command reply run step = absurd run
+  Run-more old new (c ∷ commands) [] bags command reply run step = absurd run
+  Run-more old new (c ∷ commands) (r ∷ replies) [] command reply run step = absurd run
+  Run-more old new (c ∷ commands) (r ∷ replies) (bag ∷ bags) command reply run step = (run.0, Run-more bag new commands replies bags command reply run.1 step)
+
+  charges-more : (D : ℕ) (old new : List T) (commands : List (Command T P)) (replies : List (Reply T)) (bags : List (List T)) (command : Command T P) (reply : Reply T) → Run cmp answers old commands replies bags → charges D old (commands ++ command ∷ []) (replies ++ reply ∷ []) (bags ++ new ∷ []) ≡ charges D old commands replies bags + charge D (length (last_bag old bags)) command reply (length new)
+  charges-more D old new [] [] [] command reply run = omega arith
+  charges-more D old new [] [] (bag ∷ bags) command reply run = absurd run
+  charges-more D old new [] (r ∷ replies) bags command reply run = absurd run
+  charges-more D old new (c ∷ commands) [] bags command reply run = absurd run
+  charges-more D old new (c ∷ commands) (r ∷ replies) [] command reply run = absurd run
+  charges-more D old new (c ∷ commands) (r ∷ replies) (bag ∷ bags) command reply run = omega (arith, charges-more D bag new commands replies bags command reply run.1)
+
+module _ {T P : Type 0} where
+  PushesServed-more : (sure : ℕ) (commands : List (Command T P)) (replies : List (Reply T)) (command : Command T P) (reply : Reply T) → length commands ≡ length replies → PushesServed sure commands replies → IsServed (sure_at_end sure commands replies) command reply → PushesServed sure (commands ++ command ∷ []) (replies ++ reply ∷ [])
+  PushesServed-more sure [] [] command reply long served one = (one, tt)
+  PushesServed-more sure [] (r ∷ replies) command reply long served one = absurd (omega arith)
+  PushesServed-more sure (c ∷ commands) [] command reply long served one = absurd (omega arith)
+  PushesServed-more sure (c ∷ commands) (r ∷ replies) command reply long served one = (served.0, PushesServed-more (sure_after sure c r) commands replies command reply (omega arith) served.1 one)
+
+  sure_at_end-more : (sure : ℕ) (commands : List (Command T P)) (replies : List (Reply T)) (command : Command T P) (reply : Reply T) → length commands ≡ length replies → sure_at_end sure (commands ++ command ∷ []) (replies ++ reply ∷ []) ≡ sure_after (sure_at_end sure commands replies) command reply
+  sure_at_end-more sure [] [] command reply long = refl
+  sure_at_end-more sure [] (r ∷ replies) command reply long = absurd (omega arith)
+  sure_at_end-more sure (c ∷ commands) [] command reply long = absurd (omega arith)
+  sure_at_end-more sure (c ∷ commands) (r ∷ replies) command reply long = sure_at_end-more (sure_after sure c r) commands replies command reply (omega arith)
+
+  -- fewer pushes that are sure ask for less
+  IsServed-fewer : (few many : ℕ) (command : Command T P) (reply : Reply T) → few ≤ many → IsServed many command reply → IsServed few command reply
+  IsServed-fewer few many (machine.Push x) reply h served = λ some. served (omega arith)
+  IsServed-fewer few many command reply h served = tt
+
+  sure_after-fewer : (few many : ℕ) (command : Command T P) (reply : Reply T) → few ≤ many → sure_after few command reply ≤ sure_after many command reply
+  sure_after-fewer few many (machine.Push x) reply h = omega arith
+  sure_after-fewer few many machine.Pop reply h = h
+  sure_after-fewer few many (machine.PopIf p) reply h = h
+  sure_after-fewer few many (machine.Ask p) reply h = h
+  sure_after-fewer few many machine.Len reply h = h
+  sure_after-fewer few many (machine.Reserve n) machine.Done h = omega arith
+  sure_after-fewer few many command reply h = omega arith
+
+-- a run of a heap goes on by one command
+module _ {T P : Type 0} {cmp : T → T → Ordering} {answers : P → T → Bool → P → Type 0} {D : ℕ} where
+  pub Runs-begins : (heap : Contents T) → Runs cmp answers D heap [] [] heap
+  Runs-begins heap = record { bags = []; run = tt; ends = refl; charged = record { rises = omega arith; within = omega arith }; served = tt }
+
+  pub Runs-more : (old mid new : Contents T) (commands : List (Command T P)) (replies : List (Reply T)) (command : Command T P) (reply : Reply T) → length commands ≡ length replies → sure_at_end (room old) commands replies ≤ room mid → Runs cmp answers D old commands replies mid → Serves cmp answers D mid command reply new → Runs cmp answers D old (commands ++ command ∷ []) (replies ++ reply ∷ []) new
+  Runs-more old mid new commands replies command reply long sure runs serves =
+      let costs = charges-more cmp answers D old.items new.items commands replies runs.bags command reply runs.run in
+      let last = ap (λ xs. charge D (length xs) command reply (length new.items)) runs.ends in
+      record {
+        bags = runs.bags ++ new.items ∷ [];
+        run = Run-more cmp answers old.items new.items commands replies runs.bags command reply runs.run (rw runs.ends serves.step);
+        ends = last_bag-more old.items new.items runs.bags;
+        charged = record { rises = omega arith; within = omega (arith, costs, last) };
+        served = PushesServed-more (room old) commands replies command reply long runs.served (IsServed-fewer _ _ command reply sure serves.served);
+      }
+
+  pub sure-more : (old mid new : Contents T) (commands : List (Command T P)) (replies : List (Reply T)) (command : Command T P) (reply : Reply T) → length commands ≡ length replies → sure_at_end (room old) commands replies ≤ room mid → Serves cmp answers D mid command reply new → sure_at_end (room old) (commands ++ command ∷ []) (replies ++ reply ∷ []) ≤ room new
+  sure-more old mid new commands replies command reply long sure serves =
+      omega (arith, sure_at_end-more (room old) commands replies command reply long, sure_after-fewer _ _ command reply sure, serves.sure)

@@ -1,0 +1,87 @@
+-- What one command makes of a heap, from the contract of the call that carries it out.
+use Rattle.std.proofs.Common.{◌≡◌, ℕ, ◌+◌, ◌-◌, ◌<◌, ◌≤◌, ◌↔◌, Bool, List, [], ◌∷◌, ◌++◌, length, IsPermutation, Contains, refl, sym, ap, ◌∙◌, subst, arith, Option, Some, None, IsSome, IfSome, IfNone, zero, suc, get_or, inl, inr, true, false}
+use Rattle.std.proofs.lemmas.Bool.{cases_lt}
+use Rattle.std.proofs.lemmas.List.Elements.{Contains-append_left, Contains-append_right}
+use Rattle.std.proofs.lemmas.List.Sorted.{IsPermutation-refl, IsPermutation-sym, IsPermutation-to_front, IsPermutation-trans, Contains-permutation, length_permutation}
+use Rattle.std.specs.declared.cmp.Ordering.{Ordering}
+use Rattle.dary_heap.specs.Bag.{IsGreatest}
+use Rattle.dary_heap.specs.Bounds.{RisesWithin, push_bound, pop_bound}
+use Rattle.dary_heap.specs.Contents.{Contents}
+use Rattle.dary_heap.specs.HeapOrder.{IsHeapOrdered}
+use Rattle.dary_heap.specs.Machine.{Push, Pop, Ask, Len, Pushed, PushRefused, Popped, Asked, Size}
+use Rattle.dary_heap.specs.Run.{Serves, room}
+
+-- a list without items
+pub empty : {X : Type 0} (xs : List X) → length xs ≤ 0 → xs ≡ []
+empty [] h = refl
+empty (x ∷ xs) h = absurd (omega arith)
+
+-- the items of a bag to which x was added
+added : {X : Type 0} (xs ys : List X) (x : X) → IsPermutation (x ∷ xs) ys → (y : X) → Contains ys y → Contains (xs ++ x ∷ []) y
+added xs ys x h y in' = Contains-permutation _ _ y (IsPermutation-sym _ _ (IsPermutation-trans _ _ _ (IsPermutation-to_front xs x) h)) in'
+
+-- the items of a bag from which m was taken
+rest : {X : Type 0} (xs ys : List X) (m : X) → IsPermutation xs (m ∷ ys) → (y : X) → Contains ys y → Contains (xs ++ []) y
+rest xs ys m h y in' = Contains-append_left xs [] y (Contains-permutation _ _ y (IsPermutation-sym _ _ h) (Contains-append_right (m ∷ []) ys y in'))
+
+stays : (n bound : ℕ) → RisesWithin n n bound
+stays n bound = record { rises = omega arith; within = omega arith }
+
+module _ {X P : Type 0} {cmp : X → X → Ordering} {answers : P → X → Bool → P → Type 0} {D : ℕ} where
+  pub pushed : (old new : Contents X) (x : X) → IsPermutation (x ∷ old.items) new.items → IsHeapOrdered cmp D new.items → RisesWithin old.comparisons new.comparisons (push_bound D (length old.items)) → old.capacity ≤ new.capacity → Serves cmp answers D old (Push x) Pushed new
+  pushed old new x bag ordered charged more = record {
+    step = bag;
+    charged = charged;
+    served = λ some. refl;
+    sure = omega (arith, length_permutation _ _ bag);
+    ordered = ordered;
+    among = added old.items new.items x bag;
+  }
+
+  pub push_refused : (old new : Contents X) (x y : X) → new ≡ old → y ≡ x → length old.items ≡ old.capacity → IsHeapOrdered cmp D new.items → Serves cmp answers D old (Push x) (PushRefused y) new
+  push_refused old new x y same back full ordered = rw same record {
+    step = (back, IsPermutation-refl _);
+    charged = stays _ _;
+    served = λ some. absurd (omega arith);
+    sure = omega arith;
+    ordered = subst (λ (it : Contents X). IsHeapOrdered cmp D it.items) same ordered;
+    among = λ y in'. Contains-append_left old.items (x ∷ []) y in';
+  }
+
+  pub pops : (old new : Contents X) (r : Option X) → (IsSome r ↔ (0 < length old.items)) → IfSome r (IsGreatest cmp old.items) → IfSome r (λ m. IsPermutation old.items (m ∷ new.items)) → IsHeapOrdered cmp D new.items → RisesWithin old.comparisons new.comparisons (pop_bound D (length old.items)) → new.capacity ≡ old.capacity → IfNone r (new ≡ old) → Serves cmp answers D old Pop (Popped r) new
+  pops old new None variant greatest bag ordered charged same unchanged =
+      let none : old.items ≡ [] = elim (cases_lt 0 (length old.items)) [ | inl some ↦ let given : false ≡ true = variant.1 some in cc | inr few ↦ empty old.items few ] in
+      rw unchanged record {
+        step = (none, none);
+        charged = stays _ _;
+        served = tt;
+        sure = omega arith;
+        ordered = subst (λ (it : Contents X). IsHeapOrdered cmp D it.items) unchanged ordered;
+        among = λ y in'. Contains-append_left old.items [] y in';
+      }
+  pops old new (Some m) variant greatest bag ordered charged same none = record {
+    step = (greatest, bag);
+    charged = charged;
+    served = tt;
+    sure = omega (arith, length_permutation _ _ bag);
+    ordered = ordered;
+    among = rest old.items new.items m bag;
+  }
+
+  pub asked : (heap : Contents X) (p : P) (m : X) (answer : Bool) (after : P) → answers p m answer after → IsGreatest cmp heap.items m → IsHeapOrdered cmp D heap.items → Serves cmp answers D heap (Ask p) (Asked (Some answer)) heap
+  asked heap p m answer after told greatest ordered = record {
+    step = ((m, greatest, (after, told)), IsPermutation-refl _);
+    charged = stays _ _;
+    served = tt;
+    sure = omega arith;
+    ordered = ordered;
+    among = λ y in'. Contains-append_left heap.items [] y in';
+  }
+
+single : {X : Type 0} (x y : X) (k : ℕ) → k < 1 → get_or (x ∷ []) k y ≡ y → x ≡ y
+single x y zero p e = e
+single x y (suc k) p e = absurd (omega arith)
+
+-- the one item of a list is among those that have it
+pub only : {X : Type 0} (items : List X) (x : X) → Contains items x → (y : X) → Contains (x ∷ []) y → Contains items y
+only items x in' y here = subst (Contains items) (single x y here.0 here.1 here.2) in'

@@ -1,0 +1,72 @@
+use Rattle.std.proofs.Common.{◌≡◌, ◌≤◌, ◌+◌, List, [], ◌∷◌, ◌++◌, length, map, All, Contains, refl, sym, ap, ◌∙◌, subst, arith, rules, inl, inr, append_assoc, append-nil, length-append}
+use Rattle.std.proofs.lemmas.List.{map-append, length-map}
+use Rattle.std.proofs.lemmas.List.Elements.{Contains-append_left, Contains-append_right, Contains-append_cases}
+use Rattle.std.specs.Vec.Iter.{into_iter_items, into_iter_len}
+use Rattle.dary_heap.specs.Asking.{IsCallableOn, items_in, predicates_in}
+use Rattle.dary_heap.specs.Reading as read
+use Rattle.dary_heap.specs.Run.{Runs, room}
+use Rattle.dary_heap.proofs.Asking.{callable_one, items_of_one}
+use Rattle.dary_heap.proofs.Runs.{sure_at_end, Runs-begins, Runs-more, sure-more}
+use Rattle.dary_heap.proofs.Serving.{empty}
+use Rattle.dary_heap.proofs.run.run.Goals as goal
+
+-- what was read of a list of commands, where one of them stands
+parted : {A B : Type 0} (f : A → B) (all before : List A) (x : A) (after : List A) → all ≡ before ++ (x ∷ after) → map f all ≡ map f before ++ (f x ∷ map f after)
+parted f all before x after is = ap (map f) is ∙ map-append f before (x ∷ after)
+
+pub loop-command-init : goal.loop-command-init
+loop-command-init g c =
+    let gives = c.into_iter-command-iterator.ensures.into_iter_gives in
+    record {
+      split = sym gives.0;
+      left = omega (arith, ap length gives.0, gives.1);
+      told = ap length c.in-Ok.ensures.items;
+      space = omega (arith, ap length c.in-Ok.ensures.items, gives.1, c.len.ensures, c.in-Ok.ensures.capacity);
+      runs = rw c.in-Ok.ensures.items (Runs-begins c.args.heap.now);
+      sure = omega arith;
+      among = λ x in'. Contains-append_left c.args.heap.now.items _ x in';
+      ordered = c.as_slice.ensures.ordered;
+    }
+
+pub serve-requires : goal.serve-requires
+serve-requires g c =
+    let steps = c.in-Some.ensures.steps in
+    let all = c.args.commands.items in
+    let is : all ≡ c.loop-command.yielded ++ (c.in-Some.command ∷ into_iter_items c.next.new.self) = c.loop-command.invariant.split ∙ ap (λ xs. c.loop-command.yielded ++ xs) steps.0 in
+    let seen = parted read.command all c.loop-command.yielded c.in-Some.command (into_iter_items c.next.new.self) is in
+    (search rules, (search rules, (search rules, callable_one g.P.FnMut (c.args.heap.now.items ++ items_in (read.commands all)) c.loop-command.heap.items (read.commands c.loop-command.yielded) (read.command c.in-Some.command) (read.commands (into_iter_items c.next.new.self)) c.loop-command.invariant.among (subst (λ cs. All (IsCallableOn g.P.FnMut (c.args.heap.now.items ++ items_in (read.commands all))) (predicates_in cs)) seen c.requires))))
+
+pub loop-command-preserved : goal.loop-command-preserved
+loop-command-preserved g c =
+    let steps = c.in-Some.ensures.steps in
+    let before = c.loop-command.invariant in
+    let all = c.args.commands.items in
+    let yielded = c.loop-command.yielded in
+    let command = c.in-Some.command in
+    let rest = into_iter_items c.next.new.self in
+    let is : all ≡ yielded ++ (command ∷ rest) = before.split ∙ ap (λ xs. yielded ++ xs) steps.0 in
+    let seen = parted read.command all yielded command rest is in
+    let long : length (read.commands yielded) ≡ length (read.replies c.loop-command.replies.items) = length-map yielded read.command ∙ sym before.told ∙ sym (length-map c.loop-command.replies.items read.reply) in
+    let asked : read.commands (yielded ++ command ∷ []) ≡ read.commands yielded ++ read.command command ∷ [] = map-append read.command yielded (command ∷ []) in
+    let told : read.replies c.push_reserved.new.self.items ≡ read.replies c.loop-command.replies.items ++ read.reply c.serve.result ∷ [] =
+    ap (map read.reply) c.push_reserved.ensures.items ∙ map-append read.reply c.loop-command.replies.items (c.serve.result ∷ []) in
+    record {
+      split = is ∙ sym (append_assoc yielded (command ∷ []) rest);
+      left = omega (arith, ap length steps.0, steps.1, before.left);
+      told = omega (arith, ap length c.push_reserved.ensures.items, length-append c.loop-command.replies.items (c.serve.result ∷ []), length-append yielded (command ∷ []), before.told);
+      space = omega (arith, ap length c.push_reserved.ensures.items, length-append c.loop-command.replies.items (c.serve.result ∷ []), c.push_reserved.ensures.capacity, steps.1, before.space);
+      runs = rw (asked, told) (Runs-more c.args.heap.now c.loop-command.heap c.serve.new.heap (read.commands yielded) (read.replies c.loop-command.replies.items) (read.command command) (read.reply c.serve.result) long before.sure before.runs c.serve.ensures);
+      sure = rw (asked, told) (sure-more c.args.heap.now c.loop-command.heap c.serve.new.heap (read.commands yielded) (read.replies c.loop-command.replies.items) (read.command command) (read.reply c.serve.result) long before.sure c.serve.ensures);
+      among = λ x in'. elim (Contains-append_cases c.loop-command.heap.items _ x (c.serve.ensures.among x in')) [
+        | inl held ↦ before.among x held
+        | inr brought ↦ Contains-append_right c.args.heap.now.items _ x (subst (λ cs. Contains (items_in cs) x) (sym seen) (items_of_one (read.commands yielded) (read.command command) (read.commands rest) x brought))
+      ];
+      ordered = c.serve.ensures.ordered;
+    }
+
+pub returns-clause-runs : goal.returns-clause-runs
+returns-clause-runs g c =
+    let before = c.loop-command.invariant in
+    let rest : into_iter_items c.loop-command.command-iterator ≡ [] = empty _ (omega (arith, c.in-None.ensures.steps.0, before.left)) in
+    let all : c.args.commands.items ≡ c.loop-command.yielded = before.split ∙ ap (λ xs. c.loop-command.yielded ++ xs) rest ∙ append-nil c.loop-command.yielded in
+    rw all before.runs

@@ -1,0 +1,57 @@
+-- What a list of commands makes of a heap.
+use Rattle.std.specs.Prelude.{◌≡◌, ℕ, ◌+◌, ◌-◌, ◌<◌, ◌≤◌, Bool, List, [], ◌∷◌, ◌++◌, length, Contains}
+use Rattle.std.specs.declared.cmp.Ordering.{Ordering}
+use Rattle.dary_heap.specs.Asking.{items_in}
+use Rattle.dary_heap.specs.Bounds.{RisesWithin, charge, charges}
+use Rattle.dary_heap.specs.Contents.{Contents}
+use Rattle.dary_heap.specs.HeapOrder.{IsHeapOrdered}
+use Rattle.dary_heap.specs.Machine.{Command, Reply, Push, Pop, PopIf, Ask, Len, Reserve, Pushed, Done, Step, Run, last_bag}
+
+-- how many pushes there is room for
+abbrev pub room : {T : Type 0} → Contents T → ℕ
+room heap = heap.capacity - length heap.items
+
+-- where so many pushes are sure, a push replies `Pushed` if there is one
+abbrev pub IsServed : {T P : Type 0} → ℕ → Command T P → Reply T → Type 0
+IsServed sure (Push x) reply = 0 < sure → reply ≡ Pushed
+IsServed sure command reply = Unit {0}
+
+-- how many pushes are sure after a step before which so many were. A push uses one up, a reserve that replied `Done`
+-- makes as many sure as it asked for, and after any command but these, a pop, a question and a count, none is
+abbrev pub sure_after : {T P : Type 0} → ℕ → Command T P → Reply T → ℕ
+sure_after sure (Push x) reply = sure - 1
+sure_after sure Pop reply = sure
+sure_after sure (PopIf p) reply = sure
+sure_after sure (Ask p) reply = sure
+sure_after sure Len reply = sure
+sure_after sure (Reserve n) Done = n
+sure_after sure command reply = 0
+
+-- in a run before which so many pushes are sure, each push that is sure replies `Pushed`
+abbrev pub PushesServed : {T P : Type 0} → ℕ → List (Command T P) → List (Reply T) → Type 0
+PushesServed sure [] replies = Unit {0}
+PushesServed sure (command ∷ commands) [] = Unit {0}
+PushesServed sure (command ∷ commands) (reply ∷ replies) = IsServed sure command reply × PushesServed (sure_after sure command reply) commands replies
+
+module _ {T P : Type 0} (cmp : T → T → Ordering) (answers : P → T → Bool → P → Type 0) (D : ℕ) where
+  -- a heap gave these replies to these commands
+  pub record Runs (old : Contents T) (commands : List (Command T P)) (replies : List (Reply T)) (new : Contents T) : Type 0 where
+    -- the bag after each step
+    pub bags : List (List T)
+    -- the machine may give these replies and leave these bags
+    pub run : Run cmp answers old.items commands replies bags
+    pub ends : last_bag old.items bags ≡ new.items
+    -- it made no more comparisons than the charges of the steps, taken over the same bags
+    pub charged : RisesWithin old.comparisons new.comparisons (charges D old.items commands replies bags)
+    -- no push that there is room for is refused
+    pub served : PushesServed (room old) commands replies
+
+  -- a heap gave this reply to this command
+  pub record Serves (old : Contents T) (command : Command T P) (reply : Reply T) (new : Contents T) : Type 0 where
+    pub step : Step cmp answers old.items command reply new.items
+    pub charged : RisesWithin old.comparisons new.comparisons (charge D (length old.items) command reply (length new.items))
+    pub served : IsServed (room old) command reply
+    pub sure : sure_after (room old) command reply ≤ room new
+    pub ordered : IsHeapOrdered cmp D new.items
+    -- its items come from the heap and the command
+    pub among : (x : T) → Contains new.items x → Contains (old.items ++ items_in (command ∷ [])) x
