@@ -1,4 +1,5 @@
 pub mod Asking
+pub mod Cost
 pub mod Depth
 pub mod Drifting
 pub mod Exchange
@@ -8,4 +9,5 @@ pub mod Rising
 pub mod Row
 pub mod Runs
 pub mod Serving
+pub mod Sinking
 pub mod Written
