@@ -20,15 +20,20 @@ fn a_run_gives_a_reply_to_each_command(rt: HostRuntime) -> Result<(), Fail> {
     let Ok(replies) = run(rt.alloc(), &mut heap, commands) else {
         return Err(Fail::from("no room for the replies"));
     };
-    assert!(rt; matches!(replies.as_slice(), [
-        Reply::Pushed,
-        Reply::Pushed,
-        Reply::Asked(Some(false)),
-        Reply::Popped(Some(4)),
-        Reply::Len(1),
-        Reply::Popped(Some(4)),
-        Reply::Popped(None),
-        Reply::Asked(None),
-    ]));
+    assert!(rt;
+        matches!(
+            replies.as_slice(),
+            [
+                Reply::Pushed,
+                Reply::Pushed,
+                Reply::Asked(Some(false)),
+                Reply::Popped(Some(4)),
+                Reply::Len(1),
+                Reply::Popped(Some(4)),
+                Reply::Popped(None),
+                Reply::Asked(None),
+            ]
+        )
+    );
     Ok(())
 }

@@ -1,5 +1,6 @@
 //! A judge of a caller's own.
-ghost use Rattle.std.specs.Prelude.{ℕ};
+ghost use Rattle.std.specs.Cmp.{back_total, int_cmp_total};
+ghost use Rattle.std.specs.Ordering.{int_cmp};
 
 use dary_heap::sift::{Judge, Tally, pop_with, push_with};
 use std::test::Fail;
@@ -11,11 +12,11 @@ struct Flipped {
 }
 
 impl Judge<i32> for Flipped {
-    ghost order = { λ a b. i32.cmp b a };
+    ghost order = { λ a b. int_cmp b a };
 
     ghost count = { λ judge. judge.tally };
 
-    ghost total = { back-total Ti32.total };
+    ghost total = { back_total int_cmp_total };
 
     fn at_most(&mut self, a: &i32, b: &i32) -> bool {
         self.tally.at_most(b, a)
@@ -25,7 +26,9 @@ impl Judge<i32> for Flipped {
 #[test]
 fn a_flipped_judge_gives_the_least_first(rt: HostRuntime) -> Result<(), Fail> {
     let mut items = [1, 2, 4, 5, 3].to_vec(rt.alloc())?;
-    let mut judge = Flipped { tally: Tally::new() };
+    let mut judge = Flipped {
+        tally: Tally::new(),
+    };
     assert_eq!(rt; pop_with::<_, _, 2>(&mut items, &mut judge), Some(1));
     assert_eq!(rt; items.as_slice(), [2, 3, 4, 5].as_slice());
     assert_eq!(rt; judge.tally.made(), 3);

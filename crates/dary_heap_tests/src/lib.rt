@@ -6,21 +6,15 @@
 
 #[cfg(test)]
 mod commands;
-
 #[cfg(test)]
 mod depths;
-
 #[cfg(test)]
 mod judges;
-
 #[cfg(test)]
 mod queues;
-
 #[cfg(test)]
 mod shuffles;
-
 #[cfg(test)]
 mod sifts;
-
 #[cfg(test)]
 mod types;

@@ -81,21 +81,24 @@ fn a_quaternary_heap_has_one_row_of_four(rt: HostRuntime) -> Result<(), Fail> {
     Ok(())
 }
 
-// With ample memory every push here is answered `Ok`, at full capacity too. Where an allocation
-// is made to fail, the refused item comes back and the heap is as it was.
+// With ample memory every push is answered `Ok`, those at full capacity too. Where an allocation is made
+// to fail, the item comes back and the heap is as it was.
 #[test]
 fn a_push_at_full_capacity_is_refused_only_without_memory(rt: HostRuntime) {
     let mut heap = BinaryHeap::<i32>::new(rt.alloc());
+    let mut was_full = false;
     for item in 0..20 {
-        let full = heap.len() == heap.capacity();
-        let len = heap.len();
+        let (len, greatest) = (heap.len(), heap.peek().copied());
+        let is_full = len == heap.capacity();
+        was_full |= is_full;
         match heap.push(item) {
-            Ok(()) => assert_eq!(rt; heap.len(), len + 1),
+            Ok(()) => assert_eq!(rt; heap.peek().copied(), Some(item)),
             Err(back) => {
-                assert!(rt; full);
+                assert!(rt; is_full);
                 assert_eq!(rt; back, item);
-                assert_eq!(rt; heap.len(), len);
+                assert_eq!(rt; (heap.len(), heap.peek().copied()), (len, greatest));
             }
         }
     }
+    assert!(rt; was_full);
 }

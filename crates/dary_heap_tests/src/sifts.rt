@@ -32,7 +32,11 @@ fn a_pop_goes_down_and_up_again(rt: HostRuntime) -> Result<(), Fail> {
     for (before, answer, after, made) in cases {
         let mut items = before.to_vec(rt.alloc())?;
         let mut judge = Tally::new();
-        assert_eq!(rt; pop_with::<i32, Tally, 2>(&mut items, &mut judge), answer, "{before:?}");
+        assert_eq!(rt;
+            pop_with::<i32, Tally, 2>(&mut items, &mut judge),
+            answer,
+            "{before:?}"
+        );
         assert_eq!(rt; items.as_slice(), after, "{before:?}");
         assert_eq!(rt; judge.made(), made, "{before:?}");
     }
