@@ -4,6 +4,7 @@ use dary_heap::run::{Command, Reply, run};
 use std::test::Fail;
 
 #[test]
+#[tactic(auto, using(crate::proofs::Callable::all_callable))]
 fn a_run_gives_a_reply_to_each_command(rt: HostRuntime) -> Result<(), Fail> {
     let mut heap = TernaryHeap::<i32>::new(rt.alloc());
     let at_least_5 = |item: &i32| *item >= 5;
