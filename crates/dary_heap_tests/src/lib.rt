@@ -1,0 +1,20 @@
+//! Tests of the priority queue: worked examples, outside vectors and random runs.
+//!
+//! Each expected value comes from the description of the queue, or from the Rust crate `dary_heap`,
+//! and never from this crate's own answers.
+#![tactic(auto)]
+
+#[cfg(test)]
+mod commands;
+#[cfg(test)]
+mod depths;
+#[cfg(test)]
+mod judges;
+#[cfg(test)]
+mod queues;
+#[cfg(test)]
+mod shuffles;
+#[cfg(test)]
+mod sifts;
+#[cfg(test)]
+mod types;
