@@ -36,7 +36,7 @@ module _ {T P : Type 0} where
   items_of_one before command after x in' =
       subst (λ xs. Contains xs x) (sym (items_in-append before (command ∷ after)))
       (Contains-append_right (items_in before) _ x
-        (subst (λ xs. Contains xs x) (sym (items_in-append (command ∷ []) after)) (Contains-append_left (items_in (command ∷ [])) (items_in after) x in')))
+      (subst (λ xs. Contains xs x) (sym (items_in-append (command ∷ []) after)) (Contains-append_left (items_in (command ∷ [])) (items_in after) x in')))
 
   module _ (calls : Mut P (Bor T × Unit {0}) Bool) where
     pub IsCallableOn-fewer : (pool items : List T) (p : P) → ((x : T) → Contains items x → Contains pool x) → IsCallableOn calls pool p → IsCallableOn calls items p
@@ -49,5 +49,5 @@ module _ {T P : Type 0} where
         let later = predicates_in-append (command ∷ []) after in
         All-weaker (IsCallableOn calls pool) (IsCallableOn calls items) (λ p. IsCallableOn-fewer pool items p among) _
         (All-front (IsCallableOn calls pool) (predicates_in (command ∷ [])) (predicates_in after)
-          (subst (All (IsCallableOn calls pool)) later
-            (All-back (IsCallableOn calls pool) (predicates_in before) _ (subst (All (IsCallableOn calls pool)) split h))))
+        (subst (All (IsCallableOn calls pool)) later
+        (All-back (IsCallableOn calls pool) (predicates_in before) _ (subst (All (IsCallableOn calls pool)) split h))))

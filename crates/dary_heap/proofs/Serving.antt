@@ -1,5 +1,7 @@
 -- What one command makes of a heap, from the contract of the call that carries it out.
-use Rattle.std.proofs.Common.{◌≡◌, ℕ, ◌+◌, ◌-◌, ◌<◌, ◌≤◌, ◌↔◌, Bool, List, [], ◌∷◌, ◌++◌, length, IsPermutation, Contains, refl, sym, ap, ◌∙◌, subst, arith, Option, Some, None, IsSome, IfSome, IfNone, zero, suc, get_or, inl, inr, true, false}
+use Rattle.std.proofs.Common.{◌≡◌, ℕ, ◌+◌, ◌-◌, ◌<◌, ◌≤◌, ◌↔◌, Bool, List, [], ◌∷◌, ◌++◌, length, IsPermutation, Contains, refl, sym, ap, ◌∙◌, subst, arith, Option, Some, None, IsSome, IfSome, IfNone, zero, suc, get_or, inl, inr, true, false, Bor, MatchOption}
+use Rattle.std.specs.Option.{IsSomeAnd}
+use Rattle.std.specs.Fn.{Mut, Called, CalledAt}
 use Rattle.std.proofs.lemmas.Bool.{cases_lt}
 use Rattle.std.proofs.lemmas.List.Elements.{Contains-append_left, Contains-append_right}
 use Rattle.std.proofs.lemmas.List.Sorted.{IsPermutation-refl, IsPermutation-sym, IsPermutation-to_front, IsPermutation-trans, Contains-permutation, length_permutation}
@@ -50,7 +52,7 @@ module _ {X P : Type 0} {cmp : X → X → Ordering} {answers : P → X → Bool
 
   pub pops : (old new : Contents X) (r : Option X) → (IsSome r ↔ (0 < length old.items)) → IfSome r (IsGreatest cmp old.items) → IfSome r (λ m. IsPermutation old.items (m ∷ new.items)) → IsHeapOrdered cmp D new.items → RisesWithin old.comparisons new.comparisons (pop_bound D (length old.items)) → new.capacity ≡ old.capacity → IfNone r (new ≡ old) → Serves cmp answers D old Pop (Popped r) new
   pops old new None variant greatest bag ordered charged same unchanged =
-      let none : old.items ≡ [] = elim (cases_lt 0 (length old.items)) [ | inl some ↦ let given : false ≡ true = variant.1 some in cc | inr few ↦ empty old.items few ] in
+      let none : old.items ≡ [] = elim (cases_lt 0 (length old.items)) [ inl some ↦ let given : false ≡ true = variant.1 some in cc | inr few ↦ empty old.items few ] in
       rw unchanged record {
         step = (none, none);
         charged = stays _ _;
@@ -77,6 +79,25 @@ module _ {X P : Type 0} {cmp : X → X → Ordering} {answers : P → X → Bool
     ordered = ordered;
     among = λ y in'. Contains-append_left heap.items [] y in';
   }
+
+-- a question that is put to a predicate which is called once at most
+module _ {X P : Type 0} {cmp : X → X → Ordering} {D : ℕ} (calls : Mut P (Bor X × Unit {0}) Bool) (once : (p : P) (a : Bor X × Unit {0}) (answer : Bool) → calls.post p a answer ↔ ((after : P) × Called calls p a answer after)) where
+  pub asks : (heap : Contents X) (p : P) (seen : Option (Bor X)) (answer : Option Bool) → (IsSome seen ↔ (0 < length heap.items)) → IfSome seen (λ item. IsGreatest cmp heap.items item.now) → IsHeapOrdered cmp D heap.items → MatchOption seen (answer ≡ None) (λ item. IsSomeAnd answer (calls.post p (item, tt))) → Serves cmp (CalledAt calls) D heap (Ask p) (Asked answer) heap
+  asks heap p None None variant greatest ordered told =
+      let none : heap.items ≡ [] = elim (cases_lt 0 (length heap.items)) [ | inl some ↦ let given : false ≡ true = variant.1 some in cc | inr few ↦ empty heap.items few ] in
+      record {
+        step = (none, none);
+        charged = stays _ _;
+        served = tt;
+        sure = omega arith;
+        ordered = ordered;
+        among = λ y in'. Contains-append_left heap.items [] y in';
+      }
+  asks heap p None (Some answer) variant greatest ordered told = cc
+  asks heap p (Some item) None variant greatest ordered told = absurd told
+  asks heap p (Some item) (Some answer) variant greatest ordered told =
+      let called = (once p (item, tt) answer).0 told in
+      asked heap p item.now answer called.0 (record { shown = item; shows = refl; called = called.1 }) greatest ordered
 
 single : {X : Type 0} (x y : X) (k : ℕ) → k < 1 → get_or (x ∷ []) k y ≡ y → x ≡ y
 single x y zero p e = e

@@ -1,4 +1,8 @@
 //! The heap.
+//!
+//! A clause sees a heap as its `Contents`: its items in the order in which they are stored, how many
+//! there is room for, and how many comparisons it made. The slice is always heap ordered, so its first
+//! item is one that no other exceeds.
 ghost use Rattle.std.specs.Prelude.{◌≡◌, ◌+◌, ◌-◌, ◌<◌, ◌≤◌, ◌↔◌, [], ◌∷◌, ℕ, length, slice_get, vec_capacity, Some, IsSome, IfSome, IfNone, OnOk, OnErr, IfErr, IsOk, is_ok, if◌then◌else◌, ◌==◌};
 ghost use Rattle.std.specs.Option.{option_copied};
 ghost use Rattle.dary_heap.specs.Bag.{IsSameBag, IsGreatest};
@@ -10,7 +14,22 @@ use crate::sift::{ByOrd, pop_with, push_with};
 use std::alloc::Global;
 use std::marker::Model;
 
-/// A priority queue in which each place has up to `D` children.
+/// A priority queue: a greatest item comes out first.
+///
+/// Its items lie in one vector, read as a tree in which each place has up to `D` children. A greater
+/// arity makes the tree flatter: a push takes fewer comparisons, a pop more. Arity 0 acts as 1. Items
+/// must not change their order while they are in the heap. For a heap whose least item comes out first,
+/// put the items in `Reverse`.
+///
+/// ```
+/// let mut heap = TernaryHeap::new(alloc);
+/// heap.push(1)?;
+/// heap.push(5)?;
+/// heap.push(2)?;
+/// assert_eq!(rt; heap.peek(), Some(&5));
+/// assert_eq!(rt; heap.pop(), Some(5));
+/// assert_eq!(rt; heap.len(), 2);
+/// ```
 #[derive(Drop)]
 pub struct DaryHeap<T: Ord, const D: usize> {
     items: Vec<T>,
@@ -25,26 +44,33 @@ impl<T: Ord, const D: usize> Model for DaryHeap<T, D> {
     ghost invariant = { λ heap. IsHeapOrdered T.cmp D heap.items.items };
 }
 
+/// A heap of arity 2, as std's `BinaryHeap`.
 pub type BinaryHeap<T> = DaryHeap<T, 2>;
 
+/// A heap of arity 3.
 pub type TernaryHeap<T> = DaryHeap<T, 3>;
 
+/// A heap of arity 4.
 pub type QuaternaryHeap<T> = DaryHeap<T, 4>;
 
+/// A heap of arity 5.
 pub type QuinaryHeap<T> = DaryHeap<T, 5>;
 
+/// A heap of arity 6.
 pub type SenaryHeap<T> = DaryHeap<T, 6>;
 
+/// A heap of arity 7.
 pub type SeptenaryHeap<T> = DaryHeap<T, 7>;
 
+/// A heap of arity 8.
 pub type OctonaryHeap<T> = DaryHeap<T, 8>;
 
 impl<T: Ord, const D: usize> DaryHeap<T, D> {
-    /// An empty heap.
+    /// An empty heap. It takes no memory until the first push.
     pub fn new(alloc: Global) -> Self
         ensures items { result.items ≡ [] }
         ensures capacity { result.capacity ≡ 0 }
-        ensures comparisons { result.comparisons ≡ 0 }
+        ensures uncounted { result.comparisons ≡ 0 }
     {
         DaryHeap {
             items: Vec::new(alloc),
@@ -52,28 +78,28 @@ impl<T: Ord, const D: usize> DaryHeap<T, D> {
         }
     }
 
-    /// The number of items.
+    /// The number of items. It compares nothing.
     pub fn len(&self) -> usize
         ensures { result ≡ length self.now.items }
     {
         self.items.len()
     }
 
-    /// Whether there is no item.
+    /// Whether there is no item. It compares nothing.
     pub fn is_empty(&self) -> bool
         ensures { result ≡ (length self.now.items == 0) }
     {
         self.items.is_empty()
     }
 
-    /// How many items there is room for.
+    /// How many items there is room for. A push below it takes no memory. It compares nothing.
     pub fn capacity(&self) -> usize
         ensures { result ≡ self.now.capacity }
     {
         self.items.capacity()
     }
 
-    /// The items in the order in which they are stored.
+    /// The items in the order in which they are stored, which is heap ordered. It compares nothing.
     pub fn as_slice(&self) -> &[T]
         ensures items { result.now ≡ self.now.items }
         ensures ordered { IsHeapOrdered T.cmp D self.now.items }
@@ -81,7 +107,8 @@ impl<T: Ord, const D: usize> DaryHeap<T, D> {
         self.items.as_slice()
     }
 
-    /// The greatest item.
+    /// A greatest item, or `None` exactly on an empty heap. It is the first of `as_slice`, and the one
+    /// that the next `pop` gives. It compares nothing.
     pub fn peek(&self) -> Option<&T>
         ensures variant { IsSome result ↔ (0 < length self.now.items) }
         ensures first { option_copied result ≡ slice_get self.now.items 0 }
@@ -92,9 +119,14 @@ impl<T: Ord, const D: usize> DaryHeap<T, D> {
     }
 
     /// Adds an item.
+    ///
+    /// It takes at most as many comparisons as the new place is deep. Where the length has reached the
+    /// capacity it asks for memory. Where that is refused, and only then, the item comes back and the
+    /// heap is as it was.
     pub fn push(&mut self, item: T) -> Result<(), T>
         ensures bag { OnOk result (IsSameBag (item ∷ self.old.items) self.new.items) }
         ensures counted { OnOk result (RisesWithin self.old.comparisons self.new.comparisons (push_bound D (length self.old.items))) }
+        ensures len { length self.new.items ≡ length self.old.items + (if is_ok result then 1 else 0) }
         ensures ordered { IsHeapOrdered T.cmp D self.new.items }
         ensures capacity { self.old.capacity ≤ self.new.capacity }
 
@@ -107,12 +139,17 @@ impl<T: Ord, const D: usize> DaryHeap<T, D> {
         push_with::<T, ByOrd, D>(&mut self.items, item, &mut self.judge)
     }
 
-    /// Takes the greatest item out.
+    /// Takes a greatest item out: the one that `peek` shows. On an empty heap, and only there, it gives
+    /// `None`.
+    ///
+    /// It takes at most the arity times the depth of the last place that remains, in comparisons. The
+    /// capacity stays.
     pub fn pop(&mut self) -> Option<T>
         ensures variant { IsSome result ↔ (0 < length self.old.items) }
         ensures first { result ≡ slice_get self.old.items 0 }
         ensures greatest { IfSome result (IsGreatest T.cmp self.old.items) }
         ensures bag { IfSome result (λ item. IsSameBag self.old.items (item ∷ self.new.items)) }
+        ensures len { length self.new.items ≡ length self.old.items - 1 }
         ensures ordered { IsHeapOrdered T.cmp D self.new.items }
         ensures counted { RisesWithin self.old.comparisons self.new.comparisons (pop_bound D (length self.old.items)) }
         ensures capacity { self.new.capacity ≡ self.old.capacity }

@@ -1,4 +1,24 @@
-//! A priority queue of any arity.
+//! A priority queue of any arity: a heap in one vector, in which each place has up to `D` children.
+//!
+//! A greatest item comes out first, and nothing is lost or doubled. Names and behaviour are those of
+//! Rust's crate `dary_heap`, with an allocator where memory is taken and a `Result` where it may be
+//! refused.
+//!
+//! ```
+//! use dary_heap::TernaryHeap;
+//!
+//! let mut heap = TernaryHeap::new(alloc);
+//! heap.push(1)?;
+//! heap.push(5)?;
+//! heap.push(2)?;
+//! assert_eq!(rt; heap.pop(), Some(5));
+//! ```
+//!
+//! From the bottom up:
+//!
+//! - [`sift`] moves items along the paths of the tree, for any judge of items, and counts comparisons;
+//! - [`heap`] has the heap;
+//! - [`run`] carries lists of commands out, against the machine that says what a heap may answer.
 #![tactic(auto)]
 
 pub mod heap;

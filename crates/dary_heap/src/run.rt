@@ -1,4 +1,8 @@
 //! Lists of commands, and the replies to them.
+//!
+//! [`run`] carries a list of commands out on a heap. Its contract says that the replies and the items
+//! are a run of the bag machine of `specs/Machine.antt`, which knows no tree and no memory: a pop gives
+//! any item that no other exceeds.
 ghost use Rattle.std.specs.Prelude.{◌≡◌, ◌++◌, ◌∷◌, [], All, IfOk, IfErr};
 ghost use Rattle.std.specs.Fn.{CalledAt};
 ghost use Rattle.dary_heap.specs.Asking.{IsCallableOn, items_in, predicates_in};
@@ -38,7 +42,19 @@ pub enum Reply<T: Ord, const D: usize> {
     Len(usize),
 }
 
-/// Carries the commands out, one after another, and gives a reply to each, in order.
+/// Carries the commands out, one after another, and gives one reply to each, in order.
+///
+/// It asks of the caller that each predicate may be called on the items that the heap and the commands
+/// hold.
+///
+/// The replies and the items are a run of the bag machine. Of the pushes, as many as there is room for
+/// at the start are not refused, where no more than pushes, pops, questions and counts come before
+/// them. The heap takes at most the sum of the charges of the steps, in comparisons: for a push the
+/// depth of the new place, for a pop the arity times the depth of the last place that remains, for a
+/// question and a count none.
+///
+/// Room for all replies is reserved first. Where that is refused, and only then, the commands come back
+/// in their order, and the heap is as it was.
 pub fn run<T: Ord + Drop, const D: usize, P: FnMut(&T) -> bool>(
     alloc: Global,
     heap: &mut DaryHeap<T, D>,
@@ -101,15 +117,13 @@ fn pop<T: Ord, const D: usize, P: FnMut(&T) -> bool>(heap: &mut DaryHeap<T, D>) 
 
 fn ask<T: Ord, const D: usize, P: FnMut(&T) -> bool>(
     heap: &DaryHeap<T, D>,
-    mut predicate: P,
+    predicate: P,
 ) -> Reply<T, D>
     requires { IsCallableOn P.FnMut heap.now.items predicate }
     ensures { Serves T.cmp (CalledAt P.FnMut) D heap.now (machine.Ask predicate) (read.reply result) heap.now }
 {
-    match heap.peek() {
-        Some(item) => Reply::Asked(Some(predicate(item))),
-        None => Reply::Asked(None),
-    }
+    // `map` takes the predicate by value, as one that is called once at most.
+    Reply::Asked(heap.peek().map(predicate))
 }
 
 fn len<T: Ord, const D: usize, P: FnMut(&T) -> bool>(heap: &DaryHeap<T, D>) -> Reply<T, D>
