@@ -84,7 +84,7 @@ module _ {X P : Type 0} {cmp : X → X → Ordering} {answers : P → X → Bool
 module _ {X P : Type 0} {cmp : X → X → Ordering} {D : ℕ} (calls : Mut P (Bor X × Unit {0}) Bool) (once : (p : P) (a : Bor X × Unit {0}) (answer : Bool) → calls.post p a answer ↔ ((after : P) × Called calls p a answer after)) where
   pub asks : (heap : Contents X) (p : P) (seen : Option (Bor X)) (answer : Option Bool) → (IsSome seen ↔ (0 < length heap.items)) → IfSome seen (λ item. IsGreatest cmp heap.items item.now) → IsHeapOrdered cmp D heap.items → MatchOption seen (answer ≡ None) (λ item. IsSomeAnd answer (calls.post p (item, tt))) → Serves cmp (CalledAt calls) D heap (Ask p) (Asked answer) heap
   asks heap p None None variant greatest ordered told =
-      let none : heap.items ≡ [] = elim (cases_lt 0 (length heap.items)) [ | inl some ↦ let given : false ≡ true = variant.1 some in cc | inr few ↦ empty heap.items few ] in
+      let none : heap.items ≡ [] = elim (cases_lt 0 (length heap.items)) [ inl some ↦ let given : false ≡ true = variant.1 some in cc | inr few ↦ empty heap.items few ] in
       record {
         step = (none, none);
         charged = stays _ _;

@@ -1,6 +1,7 @@
 pub mod Asking
 pub mod Bag
 pub mod Bounds
+pub mod Building
 pub mod Contents
 pub mod HeapOrder
 pub mod Machine

@@ -14,6 +14,9 @@ use crate::sift::{ByOrd, pop_with, push_with};
 use std::alloc::Global;
 use std::marker::Model;
 
+mod capacity;
+mod convert;
+
 /// A priority queue: a greatest item comes out first.
 ///
 /// Its items lie in one vector, read as a tree in which each place has up to `D` children. A greater
