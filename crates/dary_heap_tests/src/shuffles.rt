@@ -8,14 +8,14 @@ use std::process::Abort;
 use std::test::Fail;
 
 /// The numbers from 0 to 999 in the order of the shuffle with this seed.
-pub fn shuffled(alloc: Global, seed: u64) -> Result<Vec<i32>, AllocError> {
-    let mut items: Vec<i32> = (0..1000).collect(alloc)?;
+pub fn shuffled(alloc: Global, seed: u64) -> Result<Vec<u32>, AllocError> {
+    let mut items: Vec<u32> = (0..1000).collect(alloc)?;
     items.shuffle(&mut Pcg32::seed_from_u64(seed));
     Ok(items)
 }
 
 /// Whether no child of a place exceeds the item there.
-fn is_ordered(items: &[i32], arity: usize) -> bool {
+fn is_ordered(items: &[u32], arity: usize) -> bool {
     let mut children = items.iter().skip(1);
     for parent in items {
         for _ in 0..arity {
@@ -34,9 +34,9 @@ fn is_ordered(items: &[i32], arity: usize) -> bool {
 fn pushed_and_popped<const D: usize>(
     rt: &impl Abort,
     alloc: Global,
-    items: &[i32],
+    items: &[u32],
 ) -> Result<(), Fail> {
-    let mut heap = DaryHeap::<i32, D>::new(alloc);
+    let mut heap = DaryHeap::<u32, D>::new(alloc);
     for item in items {
         heap.push(*item)?;
         assert!(rt; is_ordered(heap.as_slice(), D));
