@@ -11,3 +11,4 @@ pub mod Runs
 pub mod Serving
 pub mod Sinking
 pub mod Written
+pub mod Tail

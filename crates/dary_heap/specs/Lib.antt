@@ -8,3 +8,4 @@ pub mod Machine
 pub mod Reading
 pub mod Run
 pub mod Sifting
+pub mod Tail
