@@ -12,3 +12,4 @@ pub mod Serving
 pub mod Sinking
 pub mod Written
 pub mod Tail
+pub mod Filtering

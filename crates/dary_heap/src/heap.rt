@@ -16,6 +16,8 @@ use std::marker::Model;
 
 mod capacity;
 mod convert;
+mod filter;
+mod join;
 
 /// A priority queue: a greatest item comes out first.
 ///

@@ -1,0 +1,17 @@
+use Rattle.std.proofs.Common.{◌++◌}
+use Rattle.std.proofs.lemmas.List.Sorted.{IsPermutation-append_comm, IsPermutation-trans}
+use Rattle.dary_heap.proofs.heap.DaryHeap.append.Goals as goal
+use Rattle.dary_heap.proofs.heap.DaryHeap.append.Goals.{then-len+in_ok-reserve, else-len+in_ok-reserve-2}
+
+pub returns-clause-bag : goal.returns-clause-bag
+returns-clause-bag g c =
+    elim c.if-len.branch [
+      | then-len+in_ok-reserve w ↦
+          let placed = rw (w.self-inside-is, w.other-inside-is) at c.take_in.ensures.bag in
+          let swapped = rw (w.swap.ensures.x_after, w.swap.ensures.y_after) at placed in
+          let bag = rw w.reserve.ensures.items at swapped in
+          IsPermutation-trans _ (c.args.other.now.items ++ c.args.self.now.items) _ (IsPermutation-append_comm c.args.self.now.items c.args.other.now.items) (rw (← c.self.view_is, ← c.other.view_is) bag)
+      | else-len+in_ok-reserve-2 w ↦
+          let placed = rw (w.self-inside-is, w.other-inside-is) at c.take_in.ensures.bag in
+          rw (← c.self.view_is, ← c.other.view_is) (rw w.reserve-else-len.ensures.items at placed)
+    ]

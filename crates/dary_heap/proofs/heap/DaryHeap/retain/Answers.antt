@@ -1,0 +1,58 @@
+use Rattle.std.proofs.Common.{◌≡◌, ◌+◌, ◌-◌, ◌≤◌, length, take, refl, sym, ap, ◌∙◌, subst, arith}
+use Rattle.std.specs.List.{items_where_true}
+use Rattle.dary_heap.specs.Bounds.{RisesWithin, mend_bound}
+use Rattle.dary_heap.specs.Filtering.{first_no}
+use Rattle.dary_heap.specs.HeapOrder.{IsHeapOrdered}
+use Rattle.dary_heap.proofs.Filtering.{picked-all, picked-front, length-picked, first_no-within}
+use Rattle.dary_heap.proofs.Tail.{front-ordered}
+use Rattle.dary_heap.proofs.Written.{written_back, same_contents}
+use Rattle.dary_heap.proofs.heap.DaryHeap.retain.Goals as goal
+
+pub keep-start-requires : goal.keep-start-requires
+keep-start-requires g c = rw (← c.self.view_is) at c.requires
+
+pub mend_with-requires : goal.mend_with-requires
+mend_with-requires g c =
+    let k = c.keep-start.ensures.kept in
+    omega (arith, ap length (c.as_mut_slice.ensures.value ∙ k.4), length-picked k.0 c.self.inside.items.items k.2, k.5)
+
+-- the heap's items at the end
+pub invariant_of-self : goal.invariant_of-self
+invariant_of-self g c =
+    let k = c.keep-start.ensures.kept in
+    let xs = c.self.inside.items.items in
+    let zs = c.mend_with.new.items in
+    let all : length zs ≡ c.keep-start.new.items.len = omega arith in
+    let n = c.keep-start.result in
+    let now = c.as_mut_slice.result.now in
+    let same : take n now ≡ take (first_no k.0) xs =
+    ap (take n) (c.as_mut_slice.ensures.value ∙ k.4) ∙ ap (λ m. take m (items_where_true k.0 xs)) k.5 ∙ picked-front k.0 xs k.2 in
+    let few : first_no k.0 ≤ length xs = omega (arith, first_no-within k.0, k.2) in
+    rw (written_back _ zs _ all) (c.mend_with.ensures.ordered (subst (IsHeapOrdered g.T.Ord.cmp g.row.D) (sym same) (front-ordered g.row.D (first_no k.0) xs few c.self.invariant)))
+
+pub returns-clause-ordered : goal.returns-clause-ordered
+returns-clause-ordered g c = invariant_of-self g c
+
+pub returns-clause-retained : goal.returns-clause-retained
+returns-clause-retained g c =
+    let k = c.keep-start.ensures.kept in
+    let xs = c.self.inside.items.items in
+    let zs = c.mend_with.new.items in
+    let now = c.as_mut_slice.result.now in
+    let all : length zs ≡ c.keep-start.new.items.len = omega arith in
+    let long : length now ≡ length zs = omega arith in
+    let is : now ≡ items_where_true k.0 xs = c.as_mut_slice.ensures.value ∙ k.4 in
+    rw (← c.self.view_is) record {
+      answers = k.0;
+      after = k.1;
+      all = k.2;
+      asked = k.3;
+      bag = rw (written_back _ zs _ all) (rw is at c.mend_with.ensures.bag);
+      unchanged = λ none.
+          let whole : now ≡ xs = is ∙ picked-all k.0 xs k.2 none in
+          let last : c.keep-start.result ≡ length now = omega (arith, k.5, k.2, ap length whole, none) in
+          let nothing : length now - c.keep-start.result ≡ 0 = omega arith in
+          let uncounted = rw nothing at c.mend_with.ensures.counted in
+          same_contents _ _ (written_back _ zs _ all ∙ c.mend_with.ensures.unchanged last ∙ whole) c.keep-start.ensures.capacity (omega arith);
+      counted = rw (written_back _ zs _ all) (subst (λ m. RisesWithin c.self.inside.judge c.mend_with.new.judge (mend_bound g.row.D m (m - first_no k.0))) long (subst (λ m. RisesWithin c.self.inside.judge c.mend_with.new.judge (mend_bound g.row.D (length now) (length now - m))) k.5 c.mend_with.ensures.counted));
+    }

@@ -1,0 +1,91 @@
+//! Items that leave a heap by a predicate, or all at once.
+ghost use Rattle.std.specs.Prelude.{◌≡◌, ◌<◌, ◌≤◌, [], ◌∷◌, length, take, slice_get, vec_len, vec_capacity, Some, List, Bool, IsSome, IfSome, IfNone, if◌then◌else◌, None};
+ghost use Rattle.std.specs.Fn.{CalledAt, FnOnceTakesAt, FnOnceReturnsAt};
+ghost use Rattle.std.specs.List.{items_where_true};
+ghost use Rattle.std.specs.List.Retain.{ReturnsInTurn};
+ghost use Rattle.dary_heap.specs.Asking.{TakesInTurn};
+ghost use Rattle.dary_heap.specs.Bag.{IsSameBag, IsGreatest};
+ghost use Rattle.dary_heap.specs.Bounds.{RisesWithin, pop_bound};
+ghost use Rattle.dary_heap.specs.Filtering.{IsRetained, first_no};
+ghost use Rattle.dary_heap.specs.HeapOrder.{IsHeapOrdered};
+
+use super::DaryHeap;
+use crate::sift::{ByOrd, mend_with};
+
+impl<T: Ord, const D: usize> DaryHeap<T, D> {
+    /// Takes a greatest item out, if the predicate answers yes to it.
+    ///
+    /// On an empty heap the predicate is not called. Otherwise it is called once, on the item that
+    /// `peek` shows, and the heap pops exactly where it answers yes. It asks that the predicate may be
+    /// called on that item. It takes as many comparisons as a pop, and none where nothing is popped.
+    pub fn pop_if<F: FnOnce(&T) -> bool>(&mut self, predicate: F) -> Option<T>
+        requires { (item : T) → slice_get self.old.items 0 ≡ Some item → FnOnceTakesAt F.FnOnce predicate item }
+        ensures empty { self.old.items ≡ [] → result ≡ None }
+        ensures asked { (item : T) → slice_get self.old.items 0 ≡ Some item → (answer : Bool) × FnOnceReturnsAt F.FnOnce predicate item answer × (result ≡ (if answer then Some item else None)) }
+        ensures greatest { IfSome result (IsGreatest T.cmp self.old.items) }
+        ensures bag { IfSome result (λ item. IsSameBag self.old.items (item ∷ self.new.items)) }
+        ensures ordered { IsHeapOrdered T.cmp D self.new.items }
+        ensures counted { RisesWithin self.old.comparisons self.new.comparisons (pop_bound D (length self.old.items)) }
+        ensures capacity { self.new.capacity ≡ self.old.capacity }
+
+        // Where nothing is popped nothing changes.
+        ensures unchanged { IfNone result (self.new ≡ self.old) }
+    {
+        if predicate(self.peek()?) {
+            self.pop()
+        } else {
+            None
+        }
+    }
+
+    /// Keeps the items that the predicate answers yes of, and gives up the others.
+    ///
+    /// It is asked once about each item, in the order of `as_slice`. It asks that the predicate may be
+    /// called so. Where nothing is removed the heap stays as it is and nothing is compared. Otherwise
+    /// the items that are kept stay in their order, and those from the first removed place on are
+    /// mended: `n` items are left, and it takes as many comparisons as a repair of a tail of as many
+    /// items as are left from that place on.
+    pub fn retain<F: FnMut(&T) -> bool>(&mut self, f: F)
+    where
+        T: Drop,
+        requires { TakesInTurn F.FnMut f self.old.items }
+        ensures retained { IsRetained (CalledAt F.FnMut) D f self.old self.new }
+        ensures ordered { IsHeapOrdered T.cmp D self.new.items }
+        ensures capacity { self.new.capacity ≡ self.old.capacity }
+    {
+        let start = keep(&mut self.items, f);
+        mend_with::<T, ByOrd, D>(self.items.as_mut_slice(), start, &mut self.judge);
+    }
+
+    /// Gives up all items. It compares nothing, and the capacity stays.
+    pub fn clear(&mut self)
+    where
+        T: Drop,
+        ensures items { self.new.items ≡ [] }
+        ensures capacity { self.new.capacity ≡ self.old.capacity }
+        ensures uncounted { self.new.comparisons ≡ self.old.comparisons }
+    {
+        self.items.clear();
+    }
+}
+
+/// Keeps the items that `f` answers yes of, in their order, and answers how many stand before the first
+/// that was removed.
+fn keep<T: Drop, F: FnMut(&T) -> bool>(items: &mut Vec<T>, mut f: F) -> usize
+    requires { TakesInTurn F.FnMut f items.old.items }
+    ensures kept { (answers : List Bool) × (after : F) × (length answers ≡ length items.old.items) × ReturnsInTurn (CalledAt F.FnMut) f answers items.old.items after × (items.new.items ≡ items_where_true answers items.old.items) × (result ≡ first_no answers) }
+    ensures capacity { vec_capacity items.new ≡ vec_capacity items.old }
+{
+    let mut kept = 0;
+    let mut start = items.len();
+    for place in 0..items.len() {
+        if f(&items[place]) {
+            items.swap(kept, place);
+            kept += 1;
+        } else if kept == place {
+            start = place;
+        }
+    }
+    items.truncate(kept);
+    start
+}
