@@ -7,7 +7,7 @@ mod ordered;
 mod tied;
 
 use crate::shuffles::shuffled;
-use dary_heap::sift::{Judge, Tally, pop_with, push_with};
+use dary_heap::sift::{Judge, Tally, build_with, pop_with, push_with};
 use std::alloc::Global;
 use std::process::Abort;
 use std::test::Fail;
@@ -88,6 +88,19 @@ fn pushes<J: Judge<u32> + Counts + Drop, const D: usize>(
     Ok(())
 }
 
+/// Builds the items in place, and compares what the build made and the slice in the end.
+fn build<J: Judge<u32> + Counts + Drop, const D: usize>(
+    rt: &impl Abort,
+    mut items: Vec<u32>,
+    made: u64,
+    after: &[u32],
+) {
+    let mut judge = J::fresh();
+    build_with::<u32, J, D>(&mut items, &mut judge);
+    assert_eq!(rt; items.as_slice(), after);
+    assert_eq!(rt; judge.made(), made, "{items:?}");
+}
+
 /// Pops, and compares what each pop made and gave, and the slice in the end.
 fn pops<J: Judge<u32> + Counts + Drop, const D: usize>(
     rt: &impl Abort,
@@ -121,8 +134,13 @@ fn replay_call<J: Judge<u32> + Counts + Drop, const D: usize>(
             let (made, after) = (numbers(alloc, made)?, numbers(alloc, after)?);
             pushes::<J, D>(rt, alloc, &items, &made, &after)
         }
-        // There is no call yet that builds.
-        ["build", _seed, _size, _made, _after] => Ok(()),
+        ["build", seed, size, made, after] => {
+            let mut items = shuffled(alloc, seed.parse()?)?;
+            items.truncate(size.parse()?);
+            let (made, after) = (made.parse()?, numbers(alloc, after)?);
+            build::<J, D>(rt, items, made, &after);
+            Ok(())
+        }
         ["pop", before, made, gives, after] => {
             let (before, made) = (numbers(alloc, before)?, numbers(alloc, made)?);
             let (gives, after) = (numbers(alloc, gives)?, numbers(alloc, after)?);

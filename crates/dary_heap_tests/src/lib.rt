@@ -13,6 +13,8 @@ mod depths;
 #[cfg(test)]
 mod judges;
 #[cfg(test)]
+mod noting;
+#[cfg(test)]
 mod queues;
 #[cfg(test)]
 mod shuffles;

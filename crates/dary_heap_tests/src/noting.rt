@@ -1,0 +1,104 @@
+//! Items that note their own comparisons: a heap compares by its judge alone.
+ghost use Rattle.std.proofs.Common.{nat_eq, rules};
+ghost use Rattle.std.specs.Cmp.{partial_order_from_own_ties};
+ghost use Rattle.std.specs.Cmp.Rules.{comparing};
+ghost use Rattle.std.specs.Ordering.{nat_cmp, on, as_partial_cmp};
+
+use crate::shuffles::shuffled;
+use dary_heap::heap::DaryHeap;
+use dary_heap::sift::{Tally, pop_with, push_with};
+use std::alloc::Global;
+use std::cell::Cell;
+use std::cmp::Ordering;
+use std::process::Abort;
+use std::test::Fail;
+
+/// A number that notes each call of its `cmp` in a cell.
+#[derive(Drop)]
+struct Noting<'a> {
+    key: u32,
+    calls: &'a Cell<u64>,
+}
+
+impl PartialEq for Noting<'_> {
+    ghost eq = { on (λ item. item.key) nat_eq };
+
+    ghost laws = { Prim.search (comparing, rules) };
+
+    fn eq(&self, other: &Self) -> bool {
+        self.key == other.key
+    }
+}
+
+impl Eq for Noting<'_> {
+    ghost laws = { Prim.search (comparing, rules) };
+}
+
+impl PartialOrd for Noting<'_> {
+    ghost partial_cmp = { as_partial_cmp (on (λ item. item.key) nat_cmp) };
+
+    ghost laws = { partial_order_from_own_ties (Prim.search (comparing, rules)) (Prim.search (comparing, rules)) };
+
+    fn partial_cmp(&self, other: &Self) -> Option<Ordering> {
+        Some(self.cmp(other))
+    }
+}
+
+impl Ord for Noting<'_> {
+    ghost cmp = { on (λ item. item.key) nat_cmp };
+
+    ghost total = { Prim.search (comparing, rules) };
+
+    ghost matches_partial_cmp = { Prim.search (comparing, rules) };
+
+    ghost matches_eq = { Prim.search (comparing, rules) };
+
+    fn cmp(&self, other: &Self) -> Ordering {
+        self.calls.set(self.calls.get().wrapping_add(1));
+        self.key.cmp(&other.key)
+    }
+}
+
+/// Pushes and pops on a heap of such items, beside the same on a vector with a judge that counts. The
+/// looks at the heap compare nothing.
+fn compares_by_its_judge_alone<const D: usize>(rt: &impl Abort, alloc: Global) -> Result<(), Fail> {
+    let calls = Cell::new(0);
+    let mut heap = DaryHeap::<Noting<'_>, D>::new(alloc);
+    let mut twin: Vec<u32> = Vec::new(alloc);
+    for key in shuffled(alloc, 0)?.iter().take(40) {
+        let mut judge = Tally::new();
+        push_with::<u32, Tally, D>(&mut twin, *key, &mut judge)?;
+        let item = Noting {
+            key: *key,
+            calls: &calls,
+        };
+        assert!(rt; heap.push(item).is_ok());
+        assert_eq!(rt; calls.replace(0), judge.made(), "{key} now in {twin:?}");
+    }
+    for _ in 0..41 {
+        let looked = (heap.len(), heap.is_empty(), heap.as_slice().len());
+        assert_eq!(rt; looked, (twin.len(), twin.is_empty(), twin.len()));
+        assert!(rt; heap.capacity() >= twin.len());
+        assert_eq!(rt; heap.peek().map(|item| item.key), twin.first().copied());
+        assert_eq!(rt; calls.get(), 0);
+        let mut judge = Tally::new();
+        let answer = pop_with::<u32, Tally, D>(&mut twin, &mut judge);
+        assert_eq!(rt; heap.pop().map(|item| item.key), answer);
+        assert_eq!(rt;
+            calls.replace(0),
+            judge.made(),
+            "{answer:?} out of {twin:?}"
+        );
+    }
+    assert!(rt; heap.is_empty());
+    Ok(())
+}
+
+#[test]
+fn a_heap_compares_by_its_judge_alone(rt: HostRuntime) -> Result<(), Fail> {
+    compares_by_its_judge_alone::<1>(&rt, rt.alloc())?;
+    compares_by_its_judge_alone::<2>(&rt, rt.alloc())?;
+    compares_by_its_judge_alone::<3>(&rt, rt.alloc())?;
+    compares_by_its_judge_alone::<4>(&rt, rt.alloc())?;
+    compares_by_its_judge_alone::<5>(&rt, rt.alloc())
+}
