@@ -1,0 +1,71 @@
+//! What ends a run early.
+ghost use Rattle.std.specs.Prelude.{◌≡◌};
+
+use std::alloc::{AllocError, AllocFailed};
+use std::io::{ErrorKind, Write};
+use std::{fmt, io};
+
+/// What ends a run early.
+#[derive(Clone, Copy, Debug, PartialEq, Eq)]
+pub enum Fault {
+    /// The arguments are not one digit from `1` to `8`.
+    Usage,
+    /// The line of this number, counted from 1, is no command.
+    BadLine(u64),
+    /// A growth was refused.
+    NoMemory,
+    /// The input or the output failed.
+    InputOutput,
+}
+
+impl Fault {
+    /// The status that the program ends with.
+    pub fn status(self) -> u8 {
+        match self {
+            Fault::BadLine(_) => 1,
+            Fault::Usage => 2,
+            Fault::NoMemory => 3,
+            Fault::InputOutput => 4,
+        }
+    }
+
+    /// Says on `errors` what it was, where that can be written, and answers the status.
+    pub fn report<E: Write>(self, errors: &mut E) -> u8 {
+        let _ = writeln!(errors, "{self}");
+        self.status()
+    }
+}
+
+impl fmt::Display for Fault {
+    fn fmt<W: fmt::Write>(&self, f: &mut fmt::Formatter<W>) -> fmt::Result {
+        match self {
+            Fault::Usage => write!(f, "usage: dheap ARITY (1 to 8)"),
+            Fault::BadLine(number) => write!(f, "line {number}: bad command"),
+            Fault::NoMemory => write!(f, "no memory"),
+            Fault::InputOutput => write!(f, "input or output failed"),
+        }
+    }
+}
+
+impl From<AllocError> for Fault {
+    fn from(_: AllocError) -> Fault {
+        Fault::NoMemory
+    }
+}
+
+impl<T: Drop> From<AllocFailed<T>> for Fault {
+    fn from(_: AllocFailed<T>) -> Fault {
+        Fault::NoMemory
+    }
+}
+
+impl From<io::Error> for Fault {
+    // A growth that was refused has no number of the system's.
+    fn from(error: io::Error) -> Fault {
+        if error.kind() == ErrorKind::OutOfMemory && error.raw_os_error().is_none() {
+            Fault::NoMemory
+        } else {
+            Fault::InputOutput
+        }
+    }
+}
