@@ -1,5 +1,8 @@
 //! One run of the program, over any streams.
-ghost use Rattle.std.specs.Prelude.{◌≡◌, ◌+◌, ◌<◌, ◌≤◌};
+ghost use Rattle.std.specs.Prelude.{◌≡◌, ◌≢◌, ◌+◌, ◌<◌, ◌≤◌, ◌↔◌, ℕ, map, string_bytes, IsNone, IfSome, IfErr, OnOk, MatchOption};
+ghost use Rattle.std.specs.Io.KnownBytes.{Keeps, IsAtEnd};
+ghost use Rattle.dheap.specs.Faults.{status_of};
+ghost use Rattle.dheap.specs.Words.{IsArity};
 
 pub(crate) mod fault;
 mod line;
@@ -26,7 +29,14 @@ pub fn serve<R: Read, W: Write, E: Write>(
     input: &mut R,
     output: &mut W,
     errors: &mut E,
-) -> u8 {
+) -> u8
+    ensures status { result ≤ 4 }
+    ensures usage { (result ≡ 2) ↔ ((d : ℕ) → ¬ (IsArity (map string_bytes words.now) d)) }
+
+    // Where a line may be bad, all lines were read, and nothing was written.
+    ensures whole { result < 2 → IsAtEnd (R.remaining input.new) }
+    ensures silent { 0 < result → result < 3 → Keeps (W.contents output.old) (W.contents output.new) }
+{
     match answer_all(alloc, words, input, output) {
         Ok(()) => 0,
         Err(fault) => fault.report(errors),
@@ -38,7 +48,14 @@ fn answer_all<R: Read, W: Write>(
     words: &[String],
     input: &mut R,
     output: &mut W,
-) -> Result<(), Fault> {
+) -> Result<(), Fault>
+    ensures usage { IfErr result (λ fault. status_of fault ≡ 2 → (d : ℕ) → ¬ (IsArity (map string_bytes words.now) d)) }
+    ensures arity { (d : ℕ) → IsArity (map string_bytes words.now) d → IfErr result (λ fault. status_of fault ≢ 2) }
+    ensures named { OnOk result ((d : ℕ) × IsArity (map string_bytes words.now) d) }
+    ensures whole { OnOk result (IsAtEnd (R.remaining input.new)) }
+    ensures bad { IfErr result (λ fault. status_of fault ≡ 1 → IsAtEnd (R.remaining input.new)) }
+    ensures silent { IfErr result (λ fault. status_of fault < 3 → Keeps (W.contents output.old) (W.contents output.new)) }
+{
     let Some(arity) = arity(words) else {
         return Err(Fault::Usage);
     };
@@ -58,7 +75,9 @@ fn answer_all<R: Read, W: Write>(
 }
 
 /// The arity that the arguments name, if they are one digit from `1` to `8`.
-fn arity(words: &[String]) -> Option<u8> {
+fn arity(words: &[String]) -> Option<u8>
+    ensures { MatchOption result ((d : ℕ) → ¬ (IsArity (map string_bytes words.now) d)) (IsArity (map string_bytes words.now)) }
+{
     let [word] = words else {
         return None;
     };
@@ -73,7 +92,10 @@ fn answer<W: Write, const D: usize>(
     alloc: Global,
     script: &[u8],
     output: &mut W,
-) -> Result<(), Fault> {
+) -> Result<(), Fault>
+    ensures usage { IfErr result (λ fault. status_of fault ≢ 2) }
+    ensures silent { IfErr result (λ fault. status_of fault < 3 → Keeps (W.contents output.old) (W.contents output.new)) }
+{
     let commands = commands(alloc, script, |bound: i64| move |item: &i64| *item >= bound)?;
     let mut heap = DaryHeap::<i64, D>::new(alloc);
     match run(alloc, &mut heap, commands) {
@@ -89,6 +111,7 @@ fn commands<const D: usize, P: FnMut(&i64) -> bool + Drop, F: Fn(i64) -> P>(
     at_least: F,
 ) -> Result<Vec<Command<i64, D, P>>, Fault>
     requires { F.IsAlwaysCallable at_least }
+    ensures { IfErr result (λ fault. status_of fault ≢ 2) }
 {
     let mut commands = Vec::new(alloc);
     for (number, line) in (1..u64::MAX).zip(script.split(|byte| *byte == b'\n')) {
@@ -109,7 +132,9 @@ fn write_replies<W: Write, const D: usize>(
     alloc: Global,
     replies: Vec<Reply<i64, D>>,
     output: &mut W,
-) -> Result<(), Fault> {
+) -> Result<(), Fault>
+    ensures { IfErr result (λ fault. 3 ≤ status_of fault) }
+{
     let mut output = BufWriter::new(alloc, output)?;
     for reply in replies {
         match reply {

@@ -1,5 +1,6 @@
 //! What ends a run early.
-ghost use Rattle.std.specs.Prelude.{◌≡◌};
+ghost use Rattle.std.specs.Prelude.{◌≡◌, ◌≤◌};
+ghost use Rattle.dheap.specs.Faults.{status_of};
 
 use std::alloc::{AllocError, AllocFailed};
 use std::io::{ErrorKind, Write};
@@ -20,7 +21,9 @@ pub enum Fault {
 
 impl Fault {
     /// The status that the program ends with.
-    pub fn status(self) -> u8 {
+    pub fn status(self) -> u8
+        ensures { result ≡ status_of self }
+    {
         match self {
             Fault::BadLine(_) => 1,
             Fault::Usage => 2,
@@ -30,7 +33,9 @@ impl Fault {
     }
 
     /// Says on `errors` what it was, where that can be written, and answers the status.
-    pub fn report<E: Write>(self, errors: &mut E) -> u8 {
+    pub fn report<E: Write>(self, errors: &mut E) -> u8
+        ensures { result ≡ status_of self }
+    {
         let _ = writeln!(errors, "{self}");
         self.status()
     }
@@ -48,18 +53,24 @@ impl fmt::Display for Fault {
 }
 
 impl From<AllocError> for Fault {
+    ghost from_gives = { λ _ fault. status_of fault ≡ 3 };
+
     fn from(_: AllocError) -> Fault {
         Fault::NoMemory
     }
 }
 
 impl<T: Drop> From<AllocFailed<T>> for Fault {
+    ghost from_gives = { λ _ fault. status_of fault ≡ 3 };
+
     fn from(_: AllocFailed<T>) -> Fault {
         Fault::NoMemory
     }
 }
 
 impl From<io::Error> for Fault {
+    ghost from_gives = { λ _ fault. 3 ≤ status_of fault };
+
     // A growth that was refused has no number of the system's.
     fn from(error: io::Error) -> Fault {
         if error.kind() == ErrorKind::OutOfMemory && error.raw_os_error().is_none() {
