@@ -49,8 +49,7 @@ fn answer_all<R: Read, W: Write>(
     input: &mut R,
     output: &mut W,
 ) -> Result<(), Fault>
-    ensures usage { IfErr result (λ fault. status_of fault ≡ 2 → (d : ℕ) → ¬ (IsArity (map string_bytes words.now) d)) }
-    ensures arity { (d : ℕ) → IsArity (map string_bytes words.now) d → IfErr result (λ fault. status_of fault ≢ 2) }
+    ensures usage { IfErr result (λ fault. (status_of fault ≡ 2) ↔ ((d : ℕ) → ¬ (IsArity (map string_bytes words.now) d))) }
     ensures named { OnOk result ((d : ℕ) × IsArity (map string_bytes words.now) d) }
     ensures whole { OnOk result (IsAtEnd (R.remaining input.new)) }
     ensures bad { IfErr result (λ fault. status_of fault ≡ 1 → IsAtEnd (R.remaining input.new)) }

@@ -1,5 +1,7 @@
 //! The lines of a script.
-ghost use Rattle.std.specs.Prelude.{◌≡◌};
+ghost use Rattle.std.specs.Prelude.{SomeIff};
+ghost use Rattle.std.specs.Str.Parse.{signed_digits_value};
+ghost use Rattle.dheap.specs.Words.{IsNumber};
 
 use std::str;
 
@@ -42,6 +44,11 @@ impl Line {
 }
 
 /// The number that a word writes, if it does.
-fn number(word: &[u8]) -> Option<i64> {
-    str::from_utf8(word).ok()?.parse().ok()
+fn number(word: &[u8]) -> Option<i64>
+    ensures { SomeIff result (IsNumber word.now) (signed_digits_value 10 word.now) }
+{
+    let Ok(text) = str::from_utf8(word) else {
+        return None;
+    };
+    text.parse().ok()
 }
