@@ -13,3 +13,4 @@ pub mod Sinking
 pub mod Written
 pub mod Tail
 pub mod Filtering
+pub mod Extending

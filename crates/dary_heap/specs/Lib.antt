@@ -3,6 +3,7 @@ pub mod Bag
 pub mod Bounds
 pub mod Building
 pub mod Contents
+pub mod Extending
 pub mod Filtering
 pub mod HeapOrder
 pub mod Machine

@@ -1,9 +1,11 @@
 //! Many items that come into a heap at once.
-ghost use Rattle.std.specs.Prelude.{◌≡◌, ◌+◌, ◌-◌, ◌<◌, ◌≤◌, ◌++◌, [], ◌∷◌, length, min, List, vec_len, vec_capacity, nat_lt, if◌then◌else◌, IsOk, OnOk, OnErr, MatchResult};
-ghost use Rattle.std.specs.Iterator.{ExtendsWithItems, Drains, Yields};
+ghost use Rattle.std.specs.Prelude.{◌≡◌, ◌+◌, ◌-◌, ◌<◌, ◌≤◌, ◌++◌, [], ◌∷◌, length, min, List, map, vec_len, vec_capacity, nat_lt, if◌then◌else◌, IsOk, OnOk, OnErr, MatchResult};
+ghost use Rattle.std.specs.Iterator.{ExtendsWithItems, Drains, IsFinite};
+ghost use Rattle.std.specs.Borrow.{Bor};
 ghost use Rattle.dary_heap.specs.Bag.{IsSameBag};
 ghost use Rattle.dary_heap.specs.Bounds.{RisesWithin, mend_bound};
 ghost use Rattle.dary_heap.specs.Contents.{Contents};
+ghost use Rattle.dary_heap.specs.Extending.{IsExtended, IsRefusedAfter};
 ghost use Rattle.dary_heap.specs.HeapOrder.{IsHeapOrdered};
 
 use super::DaryHeap;
@@ -56,4 +58,88 @@ fn take_in<T: Ord, const D: usize>(items: &mut Vec<T>, others: &mut Vec<T>, judg
         unreachable!()
     };
     mend_with::<T, ByOrd, D>(items.as_mut_slice(), start, judge);
+}
+
+/// What gives an item: the item itself, or a reference to one that is copied.
+trait Element<T>: Drop {
+    ghost value: { Self → T };
+
+    fn into_item(self) -> T
+        ensures { result ≡ value self };
+}
+
+impl<T: Drop> Element<T> for T {
+    ghost value = { λ item. item };
+
+    fn into_item(self) -> T {
+        self
+    }
+}
+
+impl<'a, T: Copy> Element<T> for &'a T {
+    ghost value = { λ item. item.now };
+
+    fn into_item(self) -> T {
+        *self
+    }
+}
+
+/// Pushes what the iterator gives, in its order, up to the first item that there is no memory for.
+fn push_all<T: Drop, X: Element<T>, U: IntoIterator<Item = X>>(
+    items: &mut Vec<T>,
+    iter: U,
+) -> Result<(), AllocError>
+    requires { (it : U.IntoIter) → U.into_iter_gives iter it → U.IntoIter.can_next it × IsFinite (U.IntoIter.remaining it) }
+    ensures came { (it : U.IntoIter) × (xs : List X) × U.into_iter_gives iter it × (items.new.items ≡ items.old.items ++ map X.value xs) × MatchResult result (λ _. Drains U.IntoIter.next_gives it xs) (λ _. IsRefusedAfter U.IntoIter.next_gives it xs (vec_len items.old) (vec_capacity items.old)) }
+    ensures capacity { vec_capacity items.old ≤ vec_capacity items.new }
+{
+    for element in iter {
+        items.push(element.into_item())?;
+    }
+    Ok(())
+}
+
+/// Pushes what the iterator gives, up to the first item that there is no memory for, and mends.
+fn extend_heap<T: Ord + Drop, X: Element<T>, U: IntoIterator<Item = X>, const D: usize>(
+    heap: &mut DaryHeap<T, D>,
+    iter: U,
+) -> Result<(), AllocError>
+    requires { (it : U.IntoIter) → U.into_iter_gives iter it → U.IntoIter.can_next it × IsFinite (U.IntoIter.remaining it) }
+    ensures ran { ExtendsWithItems U.into_iter_gives U.IntoIter.next_gives (λ old xs new. IsExtended T.cmp D old (map X.value xs) new) iter heap.old heap.new result }
+    ensures refused { OnErr result ((it : U.IntoIter) × (xs : List X) × U.into_iter_gives iter it × IsRefusedAfter U.IntoIter.next_gives it xs (length heap.old.items) heap.old.capacity × IsExtended T.cmp D heap.old (map X.value xs) heap.new) }
+{
+    let start = heap.items.len();
+    let outcome = push_all(&mut heap.items, iter);
+    mend_with::<T, ByOrd, D>(heap.items.as_mut_slice(), start, &mut heap.judge);
+    outcome
+}
+
+/// Adds what the iterator gives, in its order, and mends once.
+///
+/// It asks that the iterator ends. Where there is no memory for an item, which comes only at full
+/// capacity, the items before it are in the heap, and it and the rest are given up. It takes at most as
+/// many comparisons as the repair of a tail of as many items as came in.
+impl<T: Ord + Drop, const D: usize> Extend<T> for DaryHeap<T, D> {
+    ghost extend_gives = { λ old xs new. IsExtended T.cmp D old xs new };
+
+    fn extend<U: IntoIterator<Item = T>>(&mut self, iter: U) -> Result<(), AllocError>
+        requires { (it : U.IntoIter) → U.into_iter_gives iter it → U.IntoIter.can_next it × IsFinite (U.IntoIter.remaining it) }
+        ensures ran { ExtendsWithItems U.into_iter_gives U.IntoIter.next_gives (λ old xs new. IsExtended T.cmp D old xs new) iter self.old self.new result }
+        ensures refused { OnErr result ((it : U.IntoIter) × (xs : List T) × U.into_iter_gives iter it × IsRefusedAfter U.IntoIter.next_gives it xs (length self.old.items) self.old.capacity × IsExtended T.cmp D self.old xs self.new) }
+    {
+        extend_heap(self, iter)
+    }
+}
+
+/// Adds copies of the items whose references the iterator gives, as an extend by the items themselves.
+impl<'a, T: Ord + Copy + 'a, const D: usize> Extend<&'a T> for DaryHeap<T, D> {
+    ghost extend_gives = { λ old xs new. IsExtended T.cmp D old (map (λ x. x.now) xs) new };
+
+    fn extend<U: IntoIterator<Item = &'a T>>(&mut self, iter: U) -> Result<(), AllocError>
+        requires { (it : U.IntoIter) → U.into_iter_gives iter it → U.IntoIter.can_next it × IsFinite (U.IntoIter.remaining it) }
+        ensures ran { ExtendsWithItems U.into_iter_gives U.IntoIter.next_gives (λ old xs new. IsExtended T.cmp D old (map (λ x. x.now) xs) new) iter self.old self.new result }
+        ensures refused { OnErr result ((it : U.IntoIter) × (xs : List (Bor T)) × U.into_iter_gives iter it × IsRefusedAfter U.IntoIter.next_gives it xs (length self.old.items) self.old.capacity × IsExtended T.cmp D self.old (map (λ x. x.now) xs) self.new) }
+    {
+        extend_heap(self, iter)
+    }
 }

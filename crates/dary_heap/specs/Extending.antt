@@ -1,0 +1,22 @@
+-- What items that come in one after another make of a heap.
+use Rattle.std.specs.Prelude.{ℕ, ◌+◌, ◌-◌, ◌≤◌, ◌++◌, List, [], ◌∷◌, length, Option}
+use Rattle.std.specs.Iterator.{Yields}
+use Rattle.std.specs.declared.cmp.Ordering.{Ordering}
+use Rattle.dary_heap.specs.Bag.{IsSameBag}
+use Rattle.dary_heap.specs.Bounds.{RisesWithin, mend_bound}
+use Rattle.dary_heap.specs.Contents.{Contents}
+use Rattle.dary_heap.specs.HeapOrder.{IsHeapOrdered}
+
+-- an iterator gave xs and then an item that there was no memory for, behind so many items and at no less than this capacity
+pub record IsRefusedAfter {S A : Type 0} (steps : S → Option A → S → Type 0) (from : S) (xs : List A) (len capacity : ℕ) : Type 0 where
+  pub refused : A
+  pub left : S
+  pub gave : Yields steps from (xs ++ refused ∷ []) left
+  pub full : capacity ≤ len + length xs
+
+-- new has the items of old and xs
+pub record IsExtended {T : Type 0} (cmp : T → T → Ordering) (D : ℕ) (old : Contents T) (xs : List T) (new : Contents T) : Type 0 where
+  pub bag : IsSameBag (old.items ++ xs) new.items
+  pub ordered : IsHeapOrdered cmp D new.items
+  pub counted : RisesWithin old.comparisons new.comparisons (mend_bound D (length new.items) (length new.items - length old.items))
+  pub capacity : old.capacity ≤ new.capacity
