@@ -1,6 +1,6 @@
 //! Many items that come into a heap at once.
-ghost use Rattle.std.specs.Prelude.{◌≡◌, ◌+◌, ◌-◌, ◌<◌, ◌≤◌, ◌++◌, [], ◌∷◌, length, min, List, map, vec_len, vec_capacity, nat_lt, if◌then◌else◌, IsOk, OnOk, OnErr, MatchResult};
-ghost use Rattle.std.specs.Iterator.{ExtendsWithItems, Drains, IsFinite};
+ghost use Rattle.std.specs.Prelude.{◌≡◌, ◌+◌, ◌-◌, ◌<◌, ◌≤◌, ◌++◌, [], ◌∷◌, length, min, List, map, vec_len, vec_capacity, nat_lt, if◌then◌else◌, IsOk, OnOk, OnErr, MatchResult, ⊤};
+ghost use Rattle.std.specs.Iterator.{ExtendsWithItems, Drains, HoldsAlong, IsFinite};
 ghost use Rattle.std.specs.Borrow.{Bor};
 ghost use Rattle.dary_heap.specs.Bag.{IsSameBag};
 ghost use Rattle.dary_heap.specs.Bounds.{RisesWithin, mend_bound};
@@ -123,7 +123,7 @@ impl<T: Ord + Drop, const D: usize> Extend<T> for DaryHeap<T, D> {
     ghost extend_gives = { λ old xs new. IsExtended T.cmp D old xs new };
 
     fn extend<U: IntoIterator<Item = T>>(&mut self, iter: U) -> Result<(), AllocError>
-        requires { (it : U.IntoIter) → U.into_iter_gives iter it → U.IntoIter.can_next it × IsFinite (U.IntoIter.remaining it) }
+        requires { (it : U.IntoIter) → U.into_iter_gives iter it → U.IntoIter.can_next it × IsFinite (U.IntoIter.remaining it) × HoldsAlong U.IntoIter.next_gives it (λ xs. ⊤) }
         ensures ran { ExtendsWithItems U.into_iter_gives U.IntoIter.next_gives (λ old xs new. IsExtended T.cmp D old xs new) iter self.old self.new result }
         ensures refused { OnErr result ((it : U.IntoIter) × (xs : List T) × U.into_iter_gives iter it × IsRefusedAfter U.IntoIter.next_gives it xs (length self.old.items) self.old.capacity × IsExtended T.cmp D self.old xs self.new) }
     {
@@ -136,7 +136,7 @@ impl<'a, T: Ord + Copy + 'a, const D: usize> Extend<&'a T> for DaryHeap<T, D> {
     ghost extend_gives = { λ old xs new. IsExtended T.cmp D old (map (λ x. x.now) xs) new };
 
     fn extend<U: IntoIterator<Item = &'a T>>(&mut self, iter: U) -> Result<(), AllocError>
-        requires { (it : U.IntoIter) → U.into_iter_gives iter it → U.IntoIter.can_next it × IsFinite (U.IntoIter.remaining it) }
+        requires { (it : U.IntoIter) → U.into_iter_gives iter it → U.IntoIter.can_next it × IsFinite (U.IntoIter.remaining it) × HoldsAlong U.IntoIter.next_gives it (λ xs. ⊤) }
         ensures ran { ExtendsWithItems U.into_iter_gives U.IntoIter.next_gives (λ old xs new. IsExtended T.cmp D old (map (λ x. x.now) xs) new) iter self.old self.new result }
         ensures refused { OnErr result ((it : U.IntoIter) × (xs : List (Bor T)) × U.into_iter_gives iter it × IsRefusedAfter U.IntoIter.next_gives it xs (length self.old.items) self.old.capacity × IsExtended T.cmp D self.old (map (λ x. x.now) xs) self.new) }
     {
