@@ -23,10 +23,10 @@ added : {X : Type 0} (xs ys : List X) (x : X) → IsPermutation (x ∷ xs) ys �
 added xs ys x h y in' = Contains-permutation _ _ y (IsPermutation-sym _ _ (IsPermutation-trans _ _ _ (IsPermutation-to_front xs x) h)) in'
 
 -- the items of a bag from which m was taken
-rest : {X : Type 0} (xs ys : List X) (m : X) → IsPermutation xs (m ∷ ys) → (y : X) → Contains ys y → Contains (xs ++ []) y
+pub rest : {X : Type 0} (xs ys : List X) (m : X) → IsPermutation xs (m ∷ ys) → (y : X) → Contains ys y → Contains (xs ++ []) y
 rest xs ys m h y in' = Contains-append_left xs [] y (Contains-permutation _ _ y (IsPermutation-sym _ _ h) (Contains-append_right (m ∷ []) ys y in'))
 
-stays : (n bound : ℕ) → RisesWithin n n bound
+pub stays : (n bound : ℕ) → RisesWithin n n bound
 stays n bound = record { rises = omega arith; within = omega arith }
 
 module _ {X P : Type 0} {cmp : X → X → Ordering} {answers : P → X → Bool → P → Type 0} {D : ℕ} where
