@@ -1,5 +1,5 @@
 -- What a command on many items makes of a heap, from the contract of the call that carries it out.
-use Rattle.std.proofs.Common.{◌≡◌, ◌≢◌, ℕ, zero, suc, ◌+◌, ◌-◌, ◌*◌, ◌<◌, ◌≤◌, ◌==◌, ◌↔◌, if◌then◌else◌, max, min, Bool, true, false, List, [], ◌∷◌, ◌++◌, length, IsPermutation, Contains, refl, sym, ap, ◌∙◌, subst, arith, inl, inr, Option, Some, None, IfSome, IfNone, slice_get, length-append, append-nil}
+use Rattle.std.proofs.Common.{◌≡◌, ℕ, ◌-◌, ◌*◌, ◌≤◌, ◌==◌, ◌↔◌, if◌then◌else◌, max, min, Bool, true, false, List, [], ◌∷◌, ◌++◌, length, IsPermutation, Contains, refl, sym, ap, ◌∙◌, subst, arith, inl, inr, Option, Some, None, IfSome, IfNone, slice_get, length-append, append-nil}
 use Rattle.std.proofs.Math.Nat.{mul-le-mul_right}
 use Rattle.std.proofs.lemmas.Bool.{cases_lt}
 use Rattle.std.proofs.lemmas.List.Elements.{Contains-append_left, Contains-append_right, Contains-append_cases}
@@ -20,7 +20,7 @@ use Rattle.dary_heap.specs.Extending.{IsExtended}
 use Rattle.dary_heap.specs.Filtering.{IsRetained, first_no}
 use Rattle.dary_heap.specs.HeapOrder.{IsHeapOrdered, depth}
 use Rattle.dary_heap.specs.Machine.{PopIf, Retain, Extend, Append, Clear, Popped, Done, ExtendRefused, AppendRefused}
-use Rattle.dary_heap.specs.Run.{Serves, room}
+use Rattle.dary_heap.specs.Run.{Serves}
 use Rattle.dary_heap.proofs.Order.{IsAtMost-none, first_is_greatest, read}
 use Rattle.dary_heap.proofs.Serving.{empty, rest, stays}
 
