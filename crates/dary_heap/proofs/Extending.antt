@@ -1,5 +1,5 @@
 -- Items that come in one after another.
-use Rattle.std.proofs.Common.{◌≡◌, ℕ, List, [], ◌∷◌, ◌++◌, map, refl, ap, Option, Some}
+use Rattle.std.proofs.Common.{◌≡◌, List, [], ◌∷◌, ◌++◌, map, refl, ap, Option}
 use Rattle.std.specs.Iterator.{Yields}
 
 pub map-same : {X : Type 0} (xs : List X) → map (λ x. x) xs ≡ xs

@@ -1,10 +1,10 @@
 -- A predicate that is asked about the items of a list, one after another.
-use Rattle.std.proofs.Common.{◌≡◌, ◌≢◌, ℕ, zero, suc, ◌+◌, ◌<◌, ◌≤◌, Bool, true, false, List, [], ◌∷◌, ◌++◌, length, get_or, refl, sym, ap, ◌∙◌, subst, arith, Some, slice_get, take, drop, add-one}
+use Rattle.std.proofs.Common.{◌≡◌, ◌≢◌, ℕ, zero, suc, ◌+◌, ◌<◌, ◌≤◌, Bool, true, false, List, [], ◌∷◌, ◌++◌, length, get_or, refl, sym, ap, ◌∙◌, subst, arith, Some, slice_get, take, drop}
 use Rattle.std.proofs.lemmas.List.{take_more}
 use Rattle.std.proofs.lemmas.Option.{get_or_from_slice_get}
 use Rattle.std.specs.Fn.{Mut, TakesAt, CalledAt}
 use denote.Ref.{Bor}
-use Rattle.std.specs.List.{items_where_true, swap}
+use Rattle.std.specs.List.{items_where_true}
 use Rattle.std.specs.List.Retain.{ReturnsInTurn}
 use Rattle.dary_heap.specs.Asking.{TakesInTurn}
 use Rattle.dary_heap.specs.Filtering.{first_no}

@@ -14,3 +14,4 @@ pub mod Written
 pub mod Tail
 pub mod Filtering
 pub mod Extending
+pub mod ServingMany

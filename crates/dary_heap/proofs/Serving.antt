@@ -1,5 +1,5 @@
 -- What one command makes of a heap, from the contract of the call that carries it out.
-use Rattle.std.proofs.Common.{◌≡◌, ℕ, ◌+◌, ◌-◌, ◌<◌, ◌≤◌, ◌↔◌, Bool, List, [], ◌∷◌, ◌++◌, length, IsPermutation, Contains, refl, sym, ap, ◌∙◌, subst, arith, Option, Some, None, IsSome, IfSome, IfNone, zero, suc, get_or, inl, inr, true, false, Bor, MatchOption}
+use Rattle.std.proofs.Common.{◌≡◌, ℕ, ◌<◌, ◌≤◌, ◌↔◌, Bool, List, [], ◌∷◌, ◌++◌, length, IsPermutation, Contains, refl, subst, arith, Option, Some, None, IsSome, IfSome, IfNone, zero, suc, get_or, inl, inr, true, false, Bor, MatchOption}
 use Rattle.std.specs.Option.{IsSomeAnd}
 use Rattle.std.specs.Fn.{Mut, Called, CalledAt}
 use Rattle.std.proofs.lemmas.Bool.{cases_lt}
@@ -10,8 +10,8 @@ use Rattle.dary_heap.specs.Bag.{IsGreatest}
 use Rattle.dary_heap.specs.Bounds.{RisesWithin, push_bound, pop_bound}
 use Rattle.dary_heap.specs.Contents.{Contents}
 use Rattle.dary_heap.specs.HeapOrder.{IsHeapOrdered}
-use Rattle.dary_heap.specs.Machine.{Push, Pop, Ask, Len, Pushed, PushRefused, Popped, Asked, Size}
-use Rattle.dary_heap.specs.Run.{Serves, room}
+use Rattle.dary_heap.specs.Machine.{Push, Pop, Ask, Pushed, PushRefused, Popped, Asked}
+use Rattle.dary_heap.specs.Run.{Serves}
 
 -- a list without items
 pub empty : {X : Type 0} (xs : List X) → length xs ≤ 0 → xs ≡ []
@@ -23,10 +23,10 @@ added : {X : Type 0} (xs ys : List X) (x : X) → IsPermutation (x ∷ xs) ys �
 added xs ys x h y in' = Contains-permutation _ _ y (IsPermutation-sym _ _ (IsPermutation-trans _ _ _ (IsPermutation-to_front xs x) h)) in'
 
 -- the items of a bag from which m was taken
-rest : {X : Type 0} (xs ys : List X) (m : X) → IsPermutation xs (m ∷ ys) → (y : X) → Contains ys y → Contains (xs ++ []) y
+pub rest : {X : Type 0} (xs ys : List X) (m : X) → IsPermutation xs (m ∷ ys) → (y : X) → Contains ys y → Contains (xs ++ []) y
 rest xs ys m h y in' = Contains-append_left xs [] y (Contains-permutation _ _ y (IsPermutation-sym _ _ h) (Contains-append_right (m ∷ []) ys y in'))
 
-stays : (n bound : ℕ) → RisesWithin n n bound
+pub stays : (n bound : ℕ) → RisesWithin n n bound
 stays n bound = record { rises = omega arith; within = omega arith }
 
 module _ {X P : Type 0} {cmp : X → X → Ordering} {answers : P → X → Bool → P → Type 0} {D : ℕ} where

@@ -1,5 +1,5 @@
 -- What a list of commands makes of a heap.
-use Rattle.std.specs.Prelude.{◌≡◌, ℕ, ◌+◌, ◌-◌, ◌<◌, ◌≤◌, Bool, List, [], ◌∷◌, ◌++◌, length, Contains}
+use Rattle.std.specs.Prelude.{◌≡◌, ℕ, ◌-◌, ◌<◌, ◌≤◌, Bool, List, [], ◌∷◌, ◌++◌, length, Contains}
 use Rattle.std.specs.declared.cmp.Ordering.{Ordering}
 use Rattle.dary_heap.specs.Asking.{items_in}
 use Rattle.dary_heap.specs.Bounds.{RisesWithin, charge, charges}

@@ -19,12 +19,22 @@ use std::alloc::Global;
 pub enum Command<T: Ord, const D: usize, P> {
     /// Adds an item.
     Push(T),
-    /// Takes the greatest item out.
+    /// Takes a greatest item out.
     Pop,
-    /// Asks a predicate about the greatest item.
+    /// Takes a greatest item out, if the predicate answers yes to it.
+    PopIf(P),
+    /// Asks a predicate about a greatest item.
     Ask(P),
     /// Counts the items.
     Len,
+    /// Keeps the items that the predicate answers yes of.
+    Retain(P),
+    /// Adds items.
+    Extend(Vec<T>),
+    /// Adds the items of another heap.
+    Append(DaryHeap<T, D>),
+    /// Gives up all items.
+    Clear,
 }
 
 /// What became of a command.
@@ -40,6 +50,12 @@ pub enum Reply<T: Ord, const D: usize> {
     Asked(Option<bool>),
     /// The number of items.
     Len(usize),
+    /// It is done.
+    Done,
+    /// There was no memory for one of the items: those before it were added, it and the rest given up.
+    ExtendRefused,
+    /// There was no memory for the other heap's items, which comes back as it was.
+    AppendRefused(DaryHeap<T, D>),
 }
 
 /// Carries the commands out, one after another, and gives one reply to each, in order.
@@ -50,8 +66,8 @@ pub enum Reply<T: Ord, const D: usize> {
 /// The replies and the items are a run of the bag machine. Of the pushes, as many as there is room for
 /// at the start are not refused, where no more than pushes, pops, questions and counts come before
 /// them. The heap takes at most the sum of the charges of the steps, in comparisons: for a push the
-/// depth of the new place, for a pop the arity times the depth of the last place that remains, for a
-/// question and a count none.
+/// depth of the new place, for a pop the arity times the depth of the last place that remains, for
+/// items that come in or are taken out together a repair of as many, and for the others none.
 ///
 /// Room for all replies is reserved first. Where that is refused, and only then, the commands come back
 /// in their order, and the heap is as it was.
@@ -92,8 +108,13 @@ fn serve<T: Ord + Drop, const D: usize, P: FnMut(&T) -> bool>(
     match command {
         Command::Push(item) => push::<T, D, P>(heap, item),
         Command::Pop => pop::<T, D, P>(heap),
+        Command::PopIf(predicate) => pop_if(heap, predicate),
         Command::Ask(predicate) => ask(heap, predicate),
         Command::Len => len::<T, D, P>(heap),
+        Command::Retain(predicate) => retain(heap, predicate),
+        Command::Extend(items) => extend::<T, D, P>(heap, items),
+        Command::Append(other) => append::<T, D, P>(heap, other),
+        Command::Clear => clear::<T, D, P>(heap),
     }
 }
 
@@ -130,4 +151,58 @@ fn len<T: Ord, const D: usize, P: FnMut(&T) -> bool>(heap: &DaryHeap<T, D>) -> R
     ensures { Serves T.cmp (CalledAt P.FnMut) D heap.now machine.Len (read.reply result) heap.now }
 {
     Reply::Len(heap.as_slice().len())
+}
+
+fn pop_if<T: Ord, const D: usize, P: FnMut(&T) -> bool>(
+    heap: &mut DaryHeap<T, D>,
+    predicate: P,
+) -> Reply<T, D>
+    requires { IsCallableOn P.FnMut heap.old.items predicate }
+    ensures { Serves T.cmp (CalledAt P.FnMut) D heap.old (machine.PopIf predicate) (read.reply result) heap.new }
+{
+    Reply::Popped(heap.pop_if(predicate))
+}
+
+fn retain<T: Ord + Drop, const D: usize, P: FnMut(&T) -> bool>(
+    heap: &mut DaryHeap<T, D>,
+    predicate: P,
+) -> Reply<T, D>
+    requires { IsCallableOn P.FnMut heap.old.items predicate }
+    ensures { Serves T.cmp (CalledAt P.FnMut) D heap.old (machine.Retain predicate) (read.reply result) heap.new }
+{
+    heap.retain(predicate);
+    Reply::Done
+}
+
+fn extend<T: Ord + Drop, const D: usize, P: FnMut(&T) -> bool>(
+    heap: &mut DaryHeap<T, D>,
+    items: Vec<T>,
+) -> Reply<T, D>
+    ensures { Serves T.cmp (CalledAt P.FnMut) D heap.old (machine.Extend items.items) (read.reply result) heap.new }
+{
+    match heap.extend(items) {
+        Ok(()) => Reply::Done,
+        Err(_) => Reply::ExtendRefused,
+    }
+}
+
+fn append<T: Ord + Drop, const D: usize, P: FnMut(&T) -> bool>(
+    heap: &mut DaryHeap<T, D>,
+    mut other: DaryHeap<T, D>,
+) -> Reply<T, D>
+    ensures { Serves T.cmp (CalledAt P.FnMut) D heap.old (machine.Append other.items) (read.reply result) heap.new }
+{
+    match heap.append(&mut other) {
+        Ok(()) => Reply::Done,
+        Err(_) => Reply::AppendRefused(other),
+    }
+}
+
+fn clear<T: Ord + Drop, const D: usize, P: FnMut(&T) -> bool>(
+    heap: &mut DaryHeap<T, D>,
+) -> Reply<T, D>
+    ensures { Serves T.cmp (CalledAt P.FnMut) D heap.old machine.Clear (read.reply result) heap.new }
+{
+    heap.clear();
+    Reply::Done
 }

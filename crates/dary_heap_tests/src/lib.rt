@@ -7,6 +7,8 @@
 #[cfg(test)]
 mod answers;
 #[cfg(test)]
+mod builds;
+#[cfg(test)]
 mod commands;
 #[cfg(test)]
 mod depths;
@@ -17,8 +19,14 @@ mod noting;
 #[cfg(test)]
 mod queues;
 #[cfg(test)]
+mod repairs;
+#[cfg(test)]
+mod rooms;
+#[cfg(test)]
 mod shuffles;
 #[cfg(test)]
 mod sifts;
+#[cfg(test)]
+mod ties;
 #[cfg(test)]
 mod types;

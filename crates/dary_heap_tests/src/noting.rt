@@ -5,6 +5,7 @@ ghost use Rattle.std.specs.Cmp.Rules.{comparing};
 ghost use Rattle.std.specs.Ordering.{nat_cmp, on, as_partial_cmp};
 
 use crate::shuffles::shuffled;
+use dary_heap::BinaryHeap;
 use dary_heap::heap::DaryHeap;
 use dary_heap::sift::{Tally, pop_with, push_with};
 use std::alloc::Global;
@@ -101,4 +102,22 @@ fn a_heap_compares_by_its_judge_alone(rt: HostRuntime) -> Result<(), Fail> {
     compares_by_its_judge_alone::<3>(&rt, rt.alloc())?;
     compares_by_its_judge_alone::<4>(&rt, rt.alloc())?;
     compares_by_its_judge_alone::<5>(&rt, rt.alloc())
+}
+
+#[test]
+fn only_the_build_of_a_conversion_compares(rt: HostRuntime) -> Result<(), Fail> {
+    let calls = Cell::new(0);
+    let mut items = Vec::with_capacity(rt.alloc(), 5)?;
+    for key in 1..6 {
+        let item = Noting { key, calls: &calls };
+        assert!(rt; items.push(item).is_ok());
+    }
+    let mut heap = BinaryHeap::from(items);
+    assert_eq!(rt; calls.replace(0), 6);
+    assert_eq!(rt; heap.pop().map(|item| item.key), Some(5));
+    assert_eq!(rt; calls.replace(0), 3);
+    let heap = BinaryHeap::from_raw_vec(heap.into_vec());
+    assert_eq!(rt; heap.len(), 4);
+    assert_eq!(rt; calls.get(), 0);
+    Ok(())
 }

@@ -1,4 +1,4 @@
-//! Shuffled numbers, pushed one by one and popped again.
+//! Shuffled numbers, pushed one by one or built in place, and popped again.
 use dary_heap::heap::DaryHeap;
 use rand::SeedableRng;
 use rand::seq::SliceRandom;
@@ -30,23 +30,27 @@ fn is_ordered(items: &[u32], arity: usize) -> bool {
     true
 }
 
-/// Pushes the items and pops them. After each step every child is compared with its parent.
-fn pushed_and_popped<const D: usize>(
+/// Pushes the items one by one. After each push every child is compared with its parent.
+fn pushed<const D: usize>(
     rt: &impl Abort,
     alloc: Global,
     items: &[u32],
-) -> Result<(), Fail> {
-    let mut heap = DaryHeap::<u32, D>::new(alloc);
+) -> Result<DaryHeap<u32, D>, Fail> {
+    let mut heap = DaryHeap::new(alloc);
     for item in items {
         heap.push(*item)?;
         assert!(rt; is_ordered(heap.as_slice(), D));
     }
+    Ok(heap)
+}
+
+/// Pops the heap until it is empty. Before each pop every child is compared with its parent.
+fn popped<const D: usize>(rt: &impl Abort, mut heap: DaryHeap<u32, D>) {
     for answer in (0..1000).rev() {
-        assert_eq!(rt; heap.pop(), Some(answer));
         assert!(rt; is_ordered(heap.as_slice(), D));
+        assert_eq!(rt; heap.pop(), Some(answer));
     }
     assert_eq!(rt; heap.pop(), None);
-    Ok(())
 }
 
 // The first items of the first shuffle, as Rust's `rand` and `rand_pcg` give them.
@@ -61,7 +65,8 @@ fn shuffles_are_those_of_rust(rt: HostRuntime) -> Result<(), Fail> {
 fn come_out_in_order<const D: usize>(rt: &impl Abort, alloc: Global) -> Result<(), Fail> {
     for seed in 0..10 {
         let items = shuffled(alloc, seed)?;
-        pushed_and_popped::<D>(rt, alloc, &items)?;
+        popped(rt, pushed::<D>(rt, alloc, &items)?);
+        popped(rt, DaryHeap::<u32, D>::from(items));
     }
     Ok(())
 }

@@ -137,8 +137,8 @@ fn write_replies<W: Write, const D: usize>(
     let mut output = BufWriter::new(alloc, output)?;
     for reply in replies {
         match reply {
-            Reply::Pushed => writeln!(output, "ok")?,
-            Reply::PushRefused(_) => {
+            Reply::Pushed | Reply::Done => writeln!(output, "ok")?,
+            Reply::PushRefused(_) | Reply::ExtendRefused | Reply::AppendRefused(_) => {
                 output.flush()?;
                 return Err(Fault::NoMemory);
             }

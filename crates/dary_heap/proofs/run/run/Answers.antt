@@ -1,12 +1,11 @@
-use Rattle.std.proofs.Common.{◌≡◌, ◌≤◌, ◌+◌, List, [], ◌∷◌, ◌++◌, length, map, All, Contains, refl, sym, ap, ◌∙◌, subst, arith, rules, inl, inr, append_assoc, append-nil, length-append}
+use Rattle.std.proofs.Common.{◌≡◌, List, [], ◌∷◌, ◌++◌, length, map, All, Contains, sym, ap, ◌∙◌, subst, arith, rules, inl, inr, append_assoc, append-nil, length-append}
 use Rattle.std.proofs.lemmas.List.{map-append, length-map}
 use Rattle.std.proofs.lemmas.List.Elements.{Contains-append_left, Contains-append_right, Contains-append_cases}
-use Rattle.std.specs.Vec.Iter.{into_iter_items, into_iter_len}
+use Rattle.std.specs.Vec.Iter.{into_iter_items}
 use Rattle.dary_heap.specs.Asking.{IsCallableOn, items_in, predicates_in}
 use Rattle.dary_heap.specs.Reading as read
-use Rattle.dary_heap.specs.Run.{Runs, room}
 use Rattle.dary_heap.proofs.Asking.{callable_one, items_of_one}
-use Rattle.dary_heap.proofs.Runs.{sure_at_end, Runs-begins, Runs-more, sure-more}
+use Rattle.dary_heap.proofs.Runs.{Runs-begins, Runs-more, sure-more}
 use Rattle.dary_heap.proofs.Serving.{empty}
 use Rattle.dary_heap.proofs.run.run.Goals as goal
 

@@ -1,4 +1,4 @@
-use Rattle.std.proofs.Common.{◌≡◌, true, false, Some, refl, sym, ◌∙◌}
+use Rattle.std.proofs.Common.{◌≡◌, true, false, Some, refl, ◌∙◌}
 use Rattle.dary_heap.proofs.heap.DaryHeap.pop_if.Goals as goal
 
 pub returns-then-predicate-clause-asked : goal.returns-then-predicate-clause-asked

@@ -1,8 +1,7 @@
-use Rattle.std.proofs.Common.{◌≡◌, ◌+◌, ◌-◌, ◌++◌, length, take, map, vec_capacity, refl, sym, ap, ◌∙◌, subst, arith}
+use Rattle.std.proofs.Common.{◌≡◌, ◌-◌, ◌++◌, length, take, map, sym, ap, ◌∙◌, subst, arith}
 use Rattle.std.proofs.Math.Seq.{take-append_seam}
 use Rattle.std.proofs.lemmas.Result.{MatchResult-weaker}
 use Rattle.dary_heap.specs.Bounds.{RisesWithin, mend_bound}
-use Rattle.dary_heap.specs.Extending.{IsExtended, IsRefusedAfter}
 use Rattle.dary_heap.specs.HeapOrder.{IsHeapOrdered}
 use Rattle.dary_heap.proofs.Extending.{Yields-front}
 use Rattle.dary_heap.proofs.Written.{written_back}

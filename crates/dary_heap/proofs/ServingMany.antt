@@ -1,0 +1,175 @@
+-- What a command on many items makes of a heap, from the contract of the call that carries it out.
+use Rattle.std.proofs.Common.{◌≡◌, ℕ, ◌-◌, ◌*◌, ◌≤◌, ◌==◌, ◌↔◌, if◌then◌else◌, max, min, Bool, true, false, List, [], ◌∷◌, ◌++◌, length, IsPermutation, Contains, refl, sym, ap, ◌∙◌, subst, arith, inl, inr, Option, Some, None, IfSome, IfNone, slice_get, length-append, append-nil}
+use Rattle.std.proofs.Math.Nat.{mul-le-mul_right}
+use Rattle.std.proofs.lemmas.Bool.{cases_lt}
+use Rattle.std.proofs.lemmas.List.Elements.{Contains-append_left, Contains-append_right, Contains-append_cases}
+use Rattle.std.proofs.lemmas.List.Sorted.{IsPermutation-refl, IsPermutation-sym, Contains-permutation, length_permutation}
+use borrow.Author.Tests.{eqb-true, eqb-false}
+use denote.Ref.{Bor}
+use Rattle.std.specs.Cmp.{IsTotalOrder}
+use Rattle.std.specs.Fn.{Mut, Called, CalledAt}
+use Rattle.std.specs.Iterator.{Yields}
+use Rattle.std.specs.Vec.Iter.{into_iter_items, into_iter_steps}
+use Rattle.std.specs.declared.vec.IntoIter.{IntoIter}
+use Rattle.std.specs.List.{items_where_true}
+use Rattle.std.specs.declared.cmp.Ordering.{Ordering}
+use Rattle.dary_heap.specs.Bag.{IsSameBag, IsGreatest}
+use Rattle.dary_heap.specs.Bounds.{RisesWithin, build_bound, mend_bound, pop_bound}
+use Rattle.dary_heap.specs.Contents.{Contents}
+use Rattle.dary_heap.specs.Extending.{IsExtended}
+use Rattle.dary_heap.specs.Filtering.{IsRetained, first_no}
+use Rattle.dary_heap.specs.HeapOrder.{IsHeapOrdered, depth}
+use Rattle.dary_heap.specs.Machine.{PopIf, Retain, Extend, Append, Clear, Popped, Done, ExtendRefused, AppendRefused}
+use Rattle.dary_heap.specs.Run.{Serves}
+use Rattle.dary_heap.proofs.Order.{IsAtMost-none, first_is_greatest, read}
+use Rattle.dary_heap.proofs.Serving.{empty, rest, stays}
+
+-- taking in fewer items costs no more
+fewer : (D n j k : ℕ) (b c : Bool) → (j == 0) ≡ b → (k == 0) ≡ c → j ≤ k → (if b then 0 else max (build_bound D n) (j * depth D (n - 1))) ≤ (if c then 0 else max (build_bound D n) (k * depth D (n - 1)))
+fewer D n j k true c e f h = omega arith
+fewer D n j k false true e f h = let none : k ≡ 0 = eqb-true k 0 f in let same : j ≡ 0 = omega arith in absurd (let found = eqb-false j 0 e in found same)
+fewer D n j k false false e f h = let more : j * depth D (n - 1) ≤ k * depth D (n - 1) = mul-le-mul_right (depth D (n - 1)) h in omega arith
+
+pub mend_bound-fewer : (D n j k : ℕ) → j ≤ k → mend_bound D n j ≤ mend_bound D n k
+mend_bound-fewer D n j k h = fewer D n j k (j == 0) (k == 0) refl refl h
+
+-- what was picked was there
+pub Contains-picked : {X : Type 0} (bs : List Bool) (xs : List X) (x : X) → Contains (items_where_true bs xs) x → Contains xs x
+Contains-picked [] xs x in' = absurd (omega (arith, in'.1))
+Contains-picked (b ∷ bs) [] x in' = absurd (omega (arith, in'.1))
+Contains-picked (true ∷ bs) (y ∷ xs) x in' = elim (Contains-append_cases (y ∷ []) (items_where_true bs xs) x in') [
+  | inl first ↦ Contains-append_left (y ∷ []) xs x first
+  | inr later ↦ Contains-append_right (y ∷ []) xs x (Contains-picked bs xs x later)
+]
+Contains-picked (false ∷ bs) (y ∷ xs) x in' = Contains-append_right (y ∷ []) xs x (Contains-picked bs xs x in')
+
+-- no items are heap ordered
+pub none_ordered : {X : Type 0} {cmp : X → X → Ordering} {D : ℕ} (xs : List X) → xs ≡ [] → IsHeapOrdered cmp D xs
+none_ordered {cmp = cmp} {D = D} xs none = subst (IsHeapOrdered cmp D) (sym none) (record { below_parent = λ i pos. IsAtMost-none _ _ refl })
+
+-- items that come in behind others
+in_both : {X : Type 0} (xs ys : List X) (x : X) → Contains (xs ++ ys) x → Contains (xs ++ (ys ++ [])) x
+in_both xs ys x in' = subst (λ l. Contains (xs ++ l) x) (sym (append-nil ys)) in'
+
+front_of_both : {X : Type 0} (xs ys all left : List X) (x : X) → all ≡ ys ++ left → Contains (xs ++ ys) x → Contains (xs ++ (all ++ [])) x
+front_of_both xs ys all left x split in' = elim (Contains-append_cases xs ys x in') [
+  | inl first ↦ Contains-append_left xs (all ++ []) x first
+  | inr later ↦ Contains-append_right xs (all ++ []) x (subst (λ l. Contains l x) (sym (append-nil all)) (subst (λ l. Contains l x) (sym split) (Contains-append_left ys left x later)))
+]
+
+module _ {X P : Type 0} {cmp : X → X → Ordering} {answers : P → X → Bool → P → Type 0} {D : ℕ} where
+  pub retained : (old new : Contents X) (p : P) → IsRetained answers D p old new → IsHeapOrdered cmp D new.items → Serves cmp answers D old (Retain p) Done new
+  retained old new p h ordered =
+      let kept = items_where_true h.answers old.items in
+      let n = length new.items in
+      record {
+        step = (old.items, kept, IsPermutation-refl _, (h.answers, h.after, h.all, h.asked, refl), h.bag);
+        charged = record { rises = h.counted.rises; within = omega (arith, h.counted.within, mend_bound-fewer D n (n - first_no h.answers) n (omega arith)) };
+        served = tt;
+        sure = omega arith;
+        ordered = ordered;
+        among = λ x in'. Contains-append_left old.items [] x (Contains-picked h.answers old.items x (Contains-permutation new.items kept x (IsPermutation-sym kept new.items h.bag) in'));
+      }
+
+  pub extended : (old new : Contents X) (xs : List X) → IsExtended cmp D old xs new → Serves cmp answers D old (Extend xs) Done new
+  extended old new xs h = record {
+    step = h.bag;
+    charged = h.counted;
+    served = tt;
+    sure = omega arith;
+    ordered = h.ordered;
+    among = λ x in'. in_both old.items xs x (Contains-permutation new.items (old.items ++ xs) x (IsPermutation-sym (old.items ++ xs) new.items h.bag) in');
+  }
+
+  pub cleared : (old new : Contents X) → new.items ≡ [] → new.comparisons ≡ old.comparisons → Serves cmp answers D old Clear Done new
+  cleared old new none same = record {
+    step = none;
+    charged = record { rises = omega arith; within = omega arith };
+    served = tt;
+    sure = omega arith;
+    ordered = none_ordered new.items none;
+    among = λ x in'. absurd (let here : Contains [] x = subst (λ l. Contains l x) none in' in omega (arith, here.1));
+  }
+
+  pub extend_refused : (old new : Contents X) (all xs : List X) (x : X) (left : List X) → all ≡ xs ++ (x ∷ left) → IsExtended cmp D old xs new → Serves cmp answers D old (Extend all) ExtendRefused new
+  extend_refused old new all xs x left split h = record {
+    step = (xs, x ∷ left, split, omega arith, h.bag);
+    charged = h.counted;
+    served = tt;
+    sure = omega arith;
+    ordered = h.ordered;
+    among = λ y in'. front_of_both old.items xs all (x ∷ left) y split (Contains-permutation new.items (old.items ++ xs) y (IsPermutation-sym (old.items ++ xs) new.items h.bag) in');
+  }
+
+  pub appended : (old new : Contents X) (other : List X) → IsSameBag (old.items ++ other) new.items → IsHeapOrdered cmp D new.items → RisesWithin old.comparisons new.comparisons (mend_bound D (length new.items) (min (length old.items) (length other))) → Serves cmp answers D old (Append other) Done new
+  appended old new other bag ordered counted =
+      let more : length other ≡ length new.items - length old.items = omega (arith, length_permutation _ _ bag, length-append old.items other) in
+      record {
+        step = bag;
+        charged = subst (λ k. RisesWithin old.comparisons new.comparisons (mend_bound D (length new.items) (min (length old.items) k))) more counted;
+        served = tt;
+        sure = omega arith;
+        ordered = ordered;
+        among = λ x in'. in_both old.items other x (Contains-permutation new.items (old.items ++ other) x (IsPermutation-sym (old.items ++ other) new.items bag) in');
+      }
+
+  pub append_refused : (old new : Contents X) (other back : List X) → new ≡ old → back ≡ other → IsHeapOrdered cmp D new.items → Serves cmp answers D old (Append other) (AppendRefused back) new
+  append_refused old new other back same returned ordered = rw same record {
+    step = (subst (IsSameBag other) (sym returned) (IsPermutation-refl other), IsPermutation-refl _);
+    charged = stays _ _;
+    served = tt;
+    sure = omega arith;
+    ordered = subst (λ (it : Contents X). IsHeapOrdered cmp D it.items) same ordered;
+    among = λ x in'. Contains-append_left old.items (other ++ []) x in';
+  }
+
+-- what the iterator of a vector has given is a front of its items
+pub taken_front : {X A : Type 0} (s : IntoIter X A) (xs : List X) (t : IntoIter X A) → Yields into_iter_steps s xs t → into_iter_items s ≡ xs ++ into_iter_items t
+taken_front s [] t y = ap into_iter_items y
+taken_front s (x ∷ xs) t y = y.1.0 ∙ ap (λ ys. x ∷ ys) (taken_front y.0 xs t y.2)
+
+-- a pop that a predicate decides, which is called once at most
+module _ {X P : Type 0} (calls : Mut P (Bor X × Unit {0}) Bool) (once : (p : P) (a : Bor X × Unit {0}) (answer : Bool) → calls.post p a answer ↔ ((after : P) × Called calls p a answer after)) where
+  -- p was asked about a reference to item
+  abbrev Told : P → X → Bool → Type 0
+  Told p item answer = (shown : Bor X) × calls.post p (shown, tt) answer × (shown.now ≡ item)
+
+  told : (p : P) (item : X) (answer : Bool) → Told p item answer → (after : P) × CalledAt calls p item answer after
+  told p item answer h = let called = (once p (h.0, tt) answer).0 h.1 in (called.0, record { shown = h.0; shows = h.2; called = called.1 })
+
+  told_yes : (p : P) (m item : X) (answer : Bool) → Told p item answer → Some m ≡ (if answer then Some item else None) → (after : P) × CalledAt calls p m true after
+  told_yes p m item true h e = let same : item ≡ m = (cc) in subst (λ x. (after : P) × CalledAt calls p x true after) same (told p item true h)
+  told_yes p m item false h e = cc
+
+  told_no : (p : P) (item : X) (answer : Bool) → Told p item answer → None ≡ (if answer then Some item else None) → (after : P) × CalledAt calls p item false after
+  told_no p item true h e = cc
+  told_no p item false h e = told p item false h
+
+  pub pops_where : {cmp : X → X → Ordering} {D : ℕ} → IsTotalOrder cmp → (old new : Contents X) (p : P) (r : Option X) → ((item : X) → slice_get old.items 0 ≡ Some item → (answer : Bool) × Told p item answer × (r ≡ (if answer then Some item else None))) → IfSome r (IsGreatest cmp old.items) → IfSome r (λ m. IsPermutation old.items (m ∷ new.items)) → IsHeapOrdered cmp D new.items → RisesWithin old.comparisons new.comparisons (pop_bound D (length old.items)) → new.capacity ≡ old.capacity → IfNone r (new ≡ old) → Serves cmp (CalledAt calls) D old (PopIf p) (Popped r) new
+  pops_where {cmp = cmp} {D = D} total old new p None asked greatest bag ordered charged same unchanged =
+      let still = subst (λ (it : Contents X). IsHeapOrdered cmp D it.items) unchanged ordered in
+      rw unchanged record {
+        step = elim (cases_lt 0 (length old.items)) [
+          | inl some ↦
+              let first = read old.items 0 some in
+              let answer = asked first.0 first.1 in
+              inr ((first.0, first_is_greatest total D old.items still first.0 first.1, told_no p first.0 answer.0 answer.1 answer.2), IsPermutation-refl _)
+          | inr few ↦ inl (empty old.items few, empty old.items few)
+        ];
+        charged = stays _ _;
+        served = tt;
+        sure = omega arith;
+        ordered = still;
+        among = λ y in'. Contains-append_left old.items [] y in';
+      }
+  pops_where total old new p (Some m) asked greatest bag ordered charged same none =
+      let first = read old.items 0 (omega (arith, greatest.occurs.1)) in
+      let answer = asked first.0 first.1 in
+      record {
+        step = (greatest, told_yes p m first.0 answer.0 answer.1 answer.2, bag);
+        charged = charged;
+        served = tt;
+        sure = omega (arith, length_permutation _ _ bag);
+        ordered = ordered;
+        among = rest old.items new.items m bag;
+      }

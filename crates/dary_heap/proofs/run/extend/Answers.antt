@@ -1,0 +1,19 @@
+use Rattle.std.proofs.Common.{◌∷◌, [], ◌++◌, sym, ◌∙◌, subst, append_assoc}
+use Rattle.std.proofs.IntoIterSteps.{All-taken}
+use Rattle.std.specs.Vec.Iter.{into_iter_items}
+use Rattle.dary_heap.specs.Extending.{IsExtended}
+use Rattle.dary_heap.proofs.ServingMany.{extended, extend_refused, taken_front}
+use Rattle.dary_heap.proofs.run.extend.Goals as goal
+
+pub returns-in-Ok : goal.returns-in-Ok
+returns-in-Ok g c =
+    let k = c.in-Ok.ensures.ran in
+    extended c.args.heap.now c.extend.new.self c.args.items.items (subst (λ xs. IsExtended g.T.Ord.cmp g.row.D c.args.heap.now xs c.extend.new.self) (All-taken k.0 k.1 k.4 ∙ k.2.0) k.3)
+
+pub returns-in-Err : goal.returns-in-Err
+returns-in-Err g c =
+    let k = c.in-Err.ensures.refused in
+    let refused = k.3 in
+    let left = into_iter_items refused.left in
+    let split = sym k.2.0 ∙ taken_front k.0 (k.1 ++ refused.refused ∷ []) refused.left refused.gave ∙ append_assoc k.1 (refused.refused ∷ []) left in
+    extend_refused c.args.heap.now c.extend.new.self c.args.items.items k.1 refused.refused left split k.4

@@ -1,0 +1,112 @@
+//! Items that compare equal and are told apart by a tag.
+ghost use Rattle.std.proofs.Common.{nat_eq, rules};
+ghost use Rattle.std.specs.Cmp.{partial_order_from_own_ties};
+ghost use Rattle.std.specs.Cmp.Rules.{comparing};
+ghost use Rattle.std.specs.Ordering.{nat_cmp, on, as_partial_cmp};
+
+use dary_heap::BinaryHeap;
+use dary_heap::heap::DaryHeap;
+use std::alloc::{AllocError, Global};
+use std::cmp::Ordering;
+use std::process::Abort;
+use std::test::Fail;
+
+/// A number with a tag. Only the number is compared.
+#[derive(Drop)]
+struct Tagged {
+    key: u32,
+    tag: char,
+}
+
+impl PartialEq for Tagged {
+    ghost eq = { on (λ item. item.key) nat_eq };
+
+    ghost laws = { Prim.search (comparing, rules) };
+
+    fn eq(&self, other: &Self) -> bool {
+        self.key == other.key
+    }
+}
+
+impl Eq for Tagged {
+    ghost laws = { Prim.search (comparing, rules) };
+}
+
+impl PartialOrd for Tagged {
+    ghost partial_cmp = { as_partial_cmp (on (λ item. item.key) nat_cmp) };
+
+    ghost laws = { partial_order_from_own_ties (Prim.search (comparing, rules)) (Prim.search (comparing, rules)) };
+
+    fn partial_cmp(&self, other: &Self) -> Option<Ordering> {
+        Some(self.cmp(other))
+    }
+}
+
+impl Ord for Tagged {
+    ghost cmp = { on (λ item. item.key) nat_cmp };
+
+    ghost total = { Prim.search (comparing, rules) };
+
+    ghost matches_partial_cmp = { Prim.search (comparing, rules) };
+
+    ghost matches_eq = { Prim.search (comparing, rules) };
+
+    fn cmp(&self, other: &Self) -> Ordering {
+        self.key.cmp(&other.key)
+    }
+}
+
+/// The heap that is built from these keys and tags.
+fn heap_of<const D: usize>(
+    alloc: Global,
+    pairs: &[(u32, char)],
+) -> Result<DaryHeap<Tagged, D>, AllocError> {
+    let mut items = Vec::with_capacity(alloc, pairs.len())?;
+    for (key, tag) in pairs {
+        items.push(Tagged {
+            key: *key,
+            tag: *tag,
+        })?;
+    }
+    Ok(DaryHeap::from(items))
+}
+
+/// Builds a heap of these keys and tags, and compares its slice.
+fn build<const D: usize>(
+    rt: &impl Abort,
+    alloc: Global,
+    pairs: &[(u32, char)],
+    after: &[(u32, char)],
+) -> Result<(), Fail> {
+    let heap = heap_of::<D>(alloc, pairs)?;
+    let mut found = Vec::new(alloc);
+    for item in heap.as_slice() {
+        found.push((item.key, item.tag))?;
+    }
+    assert_eq!(rt; found.as_slice(), after);
+    Ok(())
+}
+
+#[test]
+fn of_equal_greatest_siblings_the_last_goes_up(rt: HostRuntime) -> Result<(), Fail> {
+    let three = [(1, 'z'), (5, 'a'), (5, 'b')];
+    let four = [(1, 'z'), (5, 'a'), (5, 'b'), (5, 'c')];
+    let five = [(1, 'z'), (5, 'a'), (5, 'b'), (5, 'c'), (5, 'e')];
+    let after = [(5, 'b'), (5, 'a'), (1, 'z')];
+    build::<2>(&rt, rt.alloc(), &three, &after)?;
+    let after = [(5, 'c'), (5, 'a'), (5, 'b'), (1, 'z')];
+    build::<3>(&rt, rt.alloc(), &four, &after)?;
+    build::<5>(&rt, rt.alloc(), &four, &after)?;
+    let after = [(5, 'e'), (5, 'a'), (5, 'b'), (5, 'c'), (1, 'z')];
+    build::<4>(&rt, rt.alloc(), &five, &after)
+}
+
+#[test]
+fn equal_items_come_out_one_by_one(rt: HostRuntime) -> Result<(), Fail> {
+    let mut heap: BinaryHeap<Tagged> = heap_of(rt.alloc(), &[(1, 'a'), (1, 'b'), (1, 'c')])?;
+    for tag in ['a', 'b', 'c'] {
+        assert_eq!(rt; heap.pop().map(|item| (item.key, item.tag)), Some((1, tag)));
+    }
+    assert!(rt; heap.pop().is_none());
+    Ok(())
+}
