@@ -7,7 +7,7 @@ use Rattle.dary_heap.specs.Bounds.{RisesWithin, mend_bound}
 use Rattle.dary_heap.specs.Contents.{Contents}
 use Rattle.dary_heap.specs.HeapOrder.{IsHeapOrdered}
 
--- an iterator gave xs and then an item that there was no memory for, behind so many items and at no less than this capacity
+-- an iterator gave xs and then one item more, which was refused: with xs behind so many items, this capacity was used up
 pub record IsRefusedAfter {S A : Type 0} (steps : S → Option A → S → Type 0) (from : S) (xs : List A) (len capacity : ℕ) : Type 0 where
   pub refused : A
   pub left : S

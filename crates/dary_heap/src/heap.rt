@@ -71,7 +71,7 @@ pub type SeptenaryHeap<T> = DaryHeap<T, 7>;
 pub type OctonaryHeap<T> = DaryHeap<T, 8>;
 
 impl<T: Ord, const D: usize> DaryHeap<T, D> {
-    /// An empty heap. It takes no memory until the first push.
+    /// An empty heap. It takes no memory until an item or a reserve asks for it.
     pub fn new(alloc: Global) -> Self
         ensures items { result.items ≡ [] }
         ensures capacity { result.capacity ≡ 0 }

@@ -66,8 +66,9 @@ pub enum Reply<T: Ord, const D: usize> {
 /// The replies and the items are a run of the bag machine. Of the pushes, as many as there is room for
 /// at the start are not refused, where no more than pushes, pops, questions and counts come before
 /// them. The heap takes at most the sum of the charges of the steps, in comparisons: for a push the
-/// depth of the new place, for a pop the arity times the depth of the last place that remains, for
-/// items that come in or are taken out together a repair of as many, and for the others none.
+/// depth of the new place, for a pop the arity times the depth of the last place that remains, for an
+/// extend the repair of as many items as came in, for an append that of as many as the shorter heap
+/// had, for a retain that of all that are left, and for the others none.
 ///
 /// Room for all replies is reserved first. Where that is refused, and only then, the commands come back
 /// in their order, and the heap is as it was.

@@ -17,7 +17,8 @@ impl<T: Ord, const D: usize> DaryHeap<T, D> {
     ///
     /// On an empty heap the predicate is not called. Otherwise it is called once, on the item that
     /// `peek` shows, and the heap pops exactly where it answers yes. It asks that the predicate may be
-    /// called on that item. It takes as many comparisons as a pop, and none where nothing is popped.
+    /// called on that item. It takes at most as many comparisons as a pop, and none where
+    /// nothing is popped.
     pub fn pop_if<F: FnOnce(&T) -> bool>(&mut self, predicate: F) -> Option<T>
         requires { (item : T) → slice_get self.old.items 0 ≡ Some item → FnOnceTakesAt F.FnOnce predicate item }
         ensures empty { self.old.items ≡ [] → result ≡ None }
@@ -43,8 +44,8 @@ impl<T: Ord, const D: usize> DaryHeap<T, D> {
     /// It is asked once about each item, in the order of `as_slice`. It asks that the predicate may be
     /// called so. Where nothing is removed the heap stays as it is and nothing is compared. Otherwise
     /// the items that are kept stay in their order, and those from the first removed place on are
-    /// mended: `n` items are left, and it takes as many comparisons as a repair of a tail of as many
-    /// items as are left from that place on.
+    /// mended: it takes at most as many comparisons as the repair of a tail of as many items as are left
+    /// from that place on.
     pub fn retain<F: FnMut(&T) -> bool>(&mut self, f: F)
     where
         T: Drop,
