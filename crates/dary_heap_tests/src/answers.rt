@@ -7,7 +7,7 @@ mod ordered;
 mod tied;
 
 use crate::shuffles::shuffled;
-use dary_heap::sift::{Judge, Tally, build_with, pop_with, push_with};
+use dary_heap::sift::{Judge, Tally, build_with, mend_with, pop_with, push_with};
 use std::alloc::Global;
 use std::process::Abort;
 use std::test::Fail;
@@ -60,7 +60,7 @@ impl Counts for Hundreds {
 }
 
 /// Reads numbers that are parted by commas. A dash stands for none.
-fn numbers(alloc: Global, word: &str) -> Result<Vec<u32>, Fail> {
+pub fn numbers(alloc: Global, word: &str) -> Result<Vec<u32>, Fail> {
     let mut numbers = Vec::new(alloc);
     if word != "-" {
         for number in word.split(',') {
@@ -99,6 +99,27 @@ fn build<J: Judge<u32> + Counts + Drop, const D: usize>(
     build_with::<u32, J, D>(&mut items, &mut judge);
     assert_eq!(rt; items.as_slice(), after);
     assert_eq!(rt; judge.made(), made, "{items:?}");
+}
+
+/// Builds the items but for a tail, mends that, and compares what the repair made and the slice in the
+/// end.
+fn mend<J: Judge<u32> + Counts + Drop, const D: usize>(
+    rt: &impl Abort,
+    alloc: Global,
+    items: &[u32],
+    tail: &[u32],
+    made: u64,
+    after: &[u32],
+) -> Result<(), Fail> {
+    let mut heap = items.to_vec(alloc)?;
+    build_with::<u32, J, D>(&mut heap, &mut J::fresh());
+    heap.extend_from_slice(tail)?;
+    let mut judge = J::fresh();
+    assert!(rt; items.len() <= heap.len());
+    mend_with::<u32, J, D>(&mut heap, items.len(), &mut judge);
+    assert_eq!(rt; heap.as_slice(), after);
+    assert_eq!(rt; judge.made(), made, "{heap:?} from {}", items.len());
+    Ok(())
 }
 
 /// Pops, and compares what each pop made and gave, and the slice in the end.
@@ -140,6 +161,14 @@ fn replay_call<J: Judge<u32> + Counts + Drop, const D: usize>(
             let (made, after) = (made.parse()?, numbers(alloc, after)?);
             build::<J, D>(rt, items, made, &after);
             Ok(())
+        }
+        ["mend", seed, size, more, made, after] => {
+            let (size, more): (usize, usize) = (size.parse()?, more.parse()?);
+            let mut items = shuffled(alloc, seed.parse()?)?;
+            items.truncate(size.saturating_add(more));
+            let (made, after) = (made.parse()?, numbers(alloc, after)?);
+            let (items, tail) = items.split_at(size.min(items.len()));
+            mend::<J, D>(rt, alloc, items, tail, made, &after)
         }
         ["pop", before, made, gives, after] => {
             let (before, made) = (numbers(alloc, before)?, numbers(alloc, made)?);

@@ -7,11 +7,19 @@
 #[cfg(test)]
 mod answers;
 #[cfg(test)]
+mod bags;
+#[cfg(test)]
 mod builds;
 #[cfg(test)]
 mod commands;
 #[cfg(test)]
 mod depths;
+#[cfg(test)]
+mod filters;
+#[cfg(test)]
+mod joined;
+#[cfg(test)]
+mod joins;
 #[cfg(test)]
 mod judges;
 #[cfg(test)]
@@ -28,5 +36,7 @@ mod shuffles;
 mod sifts;
 #[cfg(test)]
 mod ties;
+#[cfg(test)]
+mod twins;
 #[cfg(test)]
 mod types;

@@ -8,7 +8,7 @@ use crate::shuffles::shuffled;
 use dary_heap::BinaryHeap;
 use dary_heap::heap::DaryHeap;
 use dary_heap::sift::{Tally, pop_with, push_with};
-use std::alloc::Global;
+use std::alloc::{AllocError, Global};
 use std::cell::Cell;
 use std::cmp::Ordering;
 use std::process::Abort;
@@ -16,9 +16,9 @@ use std::test::Fail;
 
 /// A number that notes each call of its `cmp` in a cell.
 #[derive(Drop)]
-struct Noting<'a> {
-    key: u32,
-    calls: &'a Cell<u64>,
+pub struct Noting<'a> {
+    pub key: u32,
+    pub calls: &'a Cell<u64>,
 }
 
 impl PartialEq for Noting<'_> {
@@ -58,6 +58,22 @@ impl Ord for Noting<'_> {
         self.calls.set(self.calls.get().wrapping_add(1));
         self.key.cmp(&other.key)
     }
+}
+
+/// Items of these keys, which all note in one cell.
+pub fn noting_items<'a>(
+    alloc: Global,
+    keys: &[u32],
+    calls: &'a Cell<u64>,
+) -> Result<Vec<Noting<'a>>, AllocError> {
+    keys.iter()
+        .map(|key| Noting { key: *key, calls })
+        .collect(alloc)
+}
+
+/// The keys of such items, in their order.
+pub fn keys(alloc: Global, items: &[Noting<'_>]) -> Result<Vec<u32>, AllocError> {
+    items.iter().map(|item| item.key).collect(alloc)
 }
 
 /// Pushes and pops on a heap of such items, beside the same on a vector with a judge that counts. The
@@ -107,11 +123,7 @@ fn a_heap_compares_by_its_judge_alone(rt: HostRuntime) -> Result<(), Fail> {
 #[test]
 fn only_the_build_of_a_conversion_compares(rt: HostRuntime) -> Result<(), Fail> {
     let calls = Cell::new(0);
-    let mut items = Vec::with_capacity(rt.alloc(), 5)?;
-    for key in 1..6 {
-        let item = Noting { key, calls: &calls };
-        assert!(rt; items.push(item).is_ok());
-    }
+    let items = noting_items(rt.alloc(), &[1, 2, 3, 4, 5], &calls)?;
     let mut heap = BinaryHeap::from(items);
     assert_eq!(rt; calls.replace(0), 6);
     assert_eq!(rt; heap.pop().map(|item| item.key), Some(5));

@@ -1,0 +1,227 @@
+//! Random lists of commands, whose replies are compared with those of a plain bag.
+ghost use Rattle.std.specs.Prelude.{◌/◌};
+ghost use Rattle.std.proofs.Common.{nat_eq, rules};
+ghost use Rattle.std.specs.Cmp.{partial_order_from_own_ties};
+ghost use Rattle.std.specs.Cmp.Rules.{comparing};
+ghost use Rattle.std.specs.Ordering.{nat_cmp, on, as_partial_cmp};
+
+use dary_heap::heap::DaryHeap;
+use dary_heap::run::{Command, Reply, run};
+use rand::{Rng, SeedableRng};
+use rand_pcg::Pcg32;
+use std::alloc::{AllocError, Global};
+use std::cmp::Ordering;
+use std::process::Abort;
+use std::test::Fail;
+
+/// A number of which four at a time are equal.
+#[derive(Drop)]
+struct Coarse(u32);
+
+impl PartialEq for Coarse {
+    ghost eq = { on (λ item. item.0 / 4) nat_eq };
+
+    ghost laws = { Prim.search (comparing, rules) };
+
+    fn eq(&self, other: &Self) -> bool {
+        self.0 / 4 == other.0 / 4
+    }
+}
+
+impl Eq for Coarse {
+    ghost laws = { Prim.search (comparing, rules) };
+}
+
+impl PartialOrd for Coarse {
+    ghost partial_cmp = { as_partial_cmp (on (λ item. item.0 / 4) nat_cmp) };
+
+    ghost laws = { partial_order_from_own_ties (Prim.search (comparing, rules)) (Prim.search (comparing, rules)) };
+
+    fn partial_cmp(&self, other: &Self) -> Option<Ordering> {
+        Some(self.cmp(other))
+    }
+}
+
+impl Ord for Coarse {
+    ghost cmp = { on (λ item. item.0 / 4) nat_cmp };
+
+    ghost total = { Prim.search (comparing, rules) };
+
+    ghost matches_partial_cmp = { Prim.search (comparing, rules) };
+
+    ghost matches_eq = { Prim.search (comparing, rules) };
+
+    fn cmp(&self, other: &Self) -> Ordering {
+        (self.0 / 4).cmp(&(other.0 / 4))
+    }
+}
+
+/// What a command does. A number goes with each, which says with what.
+#[derive(Clone, Copy, Debug)]
+enum Kind {
+    Push,
+    Pop,
+    PopIf,
+    Ask,
+    Len,
+    Retain,
+    Extend,
+    Append,
+    Clear,
+}
+
+/// Draws a kind of command and its number.
+fn draw(rng: &mut Pcg32) -> (Kind, u32) {
+    let kind = match rng.next_u32() % 32 {
+        0..=9 => Kind::Push,
+        10..=14 => Kind::Pop,
+        15..=16 => Kind::PopIf,
+        17..=18 => Kind::Ask,
+        19..=20 => Kind::Len,
+        21..=22 => Kind::Retain,
+        23..=26 => Kind::Extend,
+        27..=30 => Kind::Append,
+        _ => Kind::Clear,
+    };
+    (kind, rng.next_u32() % 64)
+}
+
+/// What the predicate of a number answers. Of an item it sees the part that is compared.
+fn passes(number: u32, part: u32) -> bool {
+    number & part != 0
+}
+
+/// The items that an extend or an append brings in.
+fn many(alloc: Global, number: u32) -> Result<Vec<u32>, AllocError> {
+    (0..number % 12).map(|by| number ^ by).collect(alloc)
+}
+
+fn coarse_items(alloc: Global, number: u32) -> Result<Vec<Coarse>, AllocError> {
+    many(alloc, number)?.into_iter().map(Coarse).collect(alloc)
+}
+
+/// The command of this kind and number, with the predicate that it may ask.
+fn command<const D: usize, P: FnMut(&Coarse) -> bool + Drop>(
+    alloc: Global,
+    kind: Kind,
+    number: u32,
+    predicate: P,
+) -> Result<Command<Coarse, D, P>, AllocError> {
+    Ok(match kind {
+        Kind::Push => Command::Push(Coarse(number)),
+        Kind::Pop => Command::Pop,
+        Kind::PopIf => Command::PopIf(predicate),
+        Kind::Ask => Command::Ask(predicate),
+        Kind::Len => Command::Len,
+        Kind::Retain => Command::Retain(predicate),
+        Kind::Extend => Command::Extend(coarse_items(alloc, number)?),
+        Kind::Append => Command::Append(DaryHeap::from(coarse_items(alloc, number)?)),
+        Kind::Clear => Command::Clear,
+    })
+}
+
+/// The part of a greatest item that is compared.
+fn greatest(bag: &[u32]) -> Option<u32> {
+    bag.iter().map(|item| *item / 4).max()
+}
+
+/// Takes an item out of the bag, if it is there.
+fn take(bag: &mut Vec<u32>, item: u32) -> bool {
+    let Some(place) = bag.iter().position(|other| *other == item) else {
+        return false;
+    };
+    bag.swap_remove(place);
+    true
+}
+
+/// Whether a pop of the bag may give this. It is taken out.
+fn pops(bag: &mut Vec<u32>, item: Option<&Coarse>) -> bool {
+    match item {
+        Some(item) => greatest(bag) == Some(item.0 / 4) && take(bag, item.0),
+        None => bag.is_empty(),
+    }
+}
+
+/// Whether the bag may reply so. It is then what the command leaves.
+fn replies<const D: usize>(
+    alloc: Global,
+    bag: &mut Vec<u32>,
+    kind: Kind,
+    number: u32,
+    reply: &Reply<Coarse, D>,
+) -> Result<bool, AllocError> {
+    match (kind, reply) {
+        (Kind::Push, Reply::Pushed) => bag.push(number)?,
+        (Kind::Pop, Reply::Popped(item)) => return Ok(pops(bag, item.as_ref())),
+        (Kind::PopIf, Reply::Popped(item)) => match greatest(bag) {
+            Some(part) if passes(number, part) => return Ok(pops(bag, item.as_ref())),
+            _ => return Ok(item.is_none()),
+        },
+        (Kind::Ask, Reply::Asked(answer)) => {
+            return Ok(*answer == greatest(bag).map(|part| passes(number, part)));
+        }
+        (Kind::Len, Reply::Len(len)) => return Ok(*len == bag.len()),
+        (Kind::Retain, Reply::Done) => bag.retain(|item| passes(number, *item / 4)),
+        (Kind::Extend | Kind::Append, Reply::Done) => bag.extend(many(alloc, number)?)?,
+        (Kind::Clear, Reply::Done) => bag.clear(),
+        _ => return Ok(false),
+    }
+    Ok(true)
+}
+
+/// Draws a list of commands, runs it on a new heap, and compares the replies and what is left.
+#[tactic(auto, using(crate::proofs::Callable::all_callable))]
+fn act_as_on_a_bag<const D: usize>(
+    rt: &impl Abort,
+    alloc: Global,
+    rng: &mut Pcg32,
+) -> Result<(), Fail> {
+    let mut drawn = Vec::with_capacity(alloc, 30)?;
+    let mut commands = Vec::with_capacity(alloc, 30)?;
+    for _ in 0..30 {
+        let (kind, number) = draw(rng);
+        let predicate = move |item: &Coarse| passes(number, item.0 / 4);
+        drawn.push((kind, number))?;
+        commands
+            .push(command::<D, _>(alloc, kind, number, predicate)?)
+            .map_err(AllocError::from)?;
+    }
+    let mut heap = DaryHeap::<Coarse, D>::new(alloc);
+    let Ok(given) = run(alloc, &mut heap, commands) else {
+        return Err(Fail::from("no room for the replies"));
+    };
+    assert_eq!(rt; given.len(), drawn.len());
+    let mut bag = Vec::new(alloc);
+    for ((kind, number), reply) in drawn.iter().zip(&given) {
+        let is_right = replies(alloc, &mut bag, *kind, *number, reply)?;
+        assert!(rt; is_right, "{kind:?} {number}, after which {bag:?}");
+    }
+    for item in heap.as_slice() {
+        assert!(rt; take(&mut bag, item.0));
+    }
+    assert!(rt; bag.is_empty());
+    Ok(())
+}
+
+/// Forty lists at one arity.
+fn lists<const D: usize>(rt: &impl Abort, alloc: Global) -> Result<(), Fail> {
+    let mut rng = Pcg32::seed_from_u64(0);
+    for _ in 0..40 {
+        act_as_on_a_bag::<D>(rt, alloc, &mut rng)?;
+    }
+    Ok(())
+}
+
+#[test]
+fn random_commands_act_as_on_a_bag(rt: HostRuntime) -> Result<(), Fail> {
+    lists::<0>(&rt, rt.alloc())?;
+    lists::<1>(&rt, rt.alloc())?;
+    lists::<2>(&rt, rt.alloc())?;
+    lists::<3>(&rt, rt.alloc())?;
+    lists::<4>(&rt, rt.alloc())?;
+    lists::<5>(&rt, rt.alloc())?;
+    lists::<6>(&rt, rt.alloc())?;
+    lists::<7>(&rt, rt.alloc())?;
+    lists::<8>(&rt, rt.alloc())?;
+    lists::<9>(&rt, rt.alloc())
+}
