@@ -203,10 +203,10 @@ fn act_as_on_a_bag<const D: usize>(
     Ok(())
 }
 
-/// Forty lists at one arity.
+/// Three hundred lists at one arity.
 fn lists<const D: usize>(rt: &impl Abort, alloc: Global) -> Result<(), Fail> {
     let mut rng = Pcg32::seed_from_u64(0);
-    for _ in 0..40 {
+    for _ in 0..300 {
         act_as_on_a_bag::<D>(rt, alloc, &mut rng)?;
     }
     Ok(())
