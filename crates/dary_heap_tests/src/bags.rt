@@ -14,17 +14,18 @@ use std::cmp::Ordering;
 use std::process::Abort;
 use std::test::Fail;
 
-/// A number of which four at a time are equal.
+/// A number behind the part of it that is compared. Where that is the number itself, no two are equal but
+/// where they are the same.
 #[derive(Drop)]
-struct Coarse(u32);
+struct Coarse(u32, u32);
 
 impl PartialEq for Coarse {
-    ghost eq = { on (λ item. item.0 / 4) nat_eq };
+    ghost eq = { on (λ item. item.0) nat_eq };
 
     ghost laws = { Prim.search (comparing, rules) };
 
     fn eq(&self, other: &Self) -> bool {
-        self.0 / 4 == other.0 / 4
+        self.0 == other.0
     }
 }
 
@@ -33,7 +34,7 @@ impl Eq for Coarse {
 }
 
 impl PartialOrd for Coarse {
-    ghost partial_cmp = { as_partial_cmp (on (λ item. item.0 / 4) nat_cmp) };
+    ghost partial_cmp = { as_partial_cmp (on (λ item. item.0) nat_cmp) };
 
     ghost laws = { partial_order_from_own_ties (Prim.search (comparing, rules)) (Prim.search (comparing, rules)) };
 
@@ -43,7 +44,7 @@ impl PartialOrd for Coarse {
 }
 
 impl Ord for Coarse {
-    ghost cmp = { on (λ item. item.0 / 4) nat_cmp };
+    ghost cmp = { on (λ item. item.0) nat_cmp };
 
     ghost total = { Prim.search (comparing, rules) };
 
@@ -52,7 +53,7 @@ impl Ord for Coarse {
     ghost matches_eq = { Prim.search (comparing, rules) };
 
     fn cmp(&self, other: &Self) -> Ordering {
-        (self.0 / 4).cmp(&(other.0 / 4))
+        self.0.cmp(&other.0)
     }
 }
 
@@ -86,6 +87,11 @@ fn draw(rng: &mut Pcg32) -> (Kind, u32) {
     (kind, rng.next_u32() % 64)
 }
 
+/// The part of a number that is compared: four at a time are equal where there are ties.
+fn part(number: u32, ties: bool) -> u32 {
+    if ties { number / 4 } else { number }
+}
+
 /// What the predicate of a number answers. Of an item it sees the part that is compared.
 fn passes(number: u32, part: u32) -> bool {
     number & part != 0
@@ -96,8 +102,11 @@ fn many(alloc: Global, number: u32) -> Result<Vec<u32>, AllocError> {
     (0..number % 12).map(|by| number ^ by).collect(alloc)
 }
 
-fn coarse_items(alloc: Global, number: u32) -> Result<Vec<Coarse>, AllocError> {
-    many(alloc, number)?.into_iter().map(Coarse).collect(alloc)
+fn coarse_items(alloc: Global, number: u32, ties: bool) -> Result<Vec<Coarse>, AllocError> {
+    let items = many(alloc, number)?.into_iter();
+    items
+        .map(|item| Coarse(part(item, ties), item))
+        .collect(alloc)
 }
 
 /// The command of this kind and number, with the predicate that it may ask.
@@ -105,24 +114,25 @@ fn command<const D: usize, P: FnMut(&Coarse) -> bool + Drop>(
     alloc: Global,
     kind: Kind,
     number: u32,
+    ties: bool,
     predicate: P,
 ) -> Result<Command<Coarse, D, P>, AllocError> {
     Ok(match kind {
-        Kind::Push => Command::Push(Coarse(number)),
+        Kind::Push => Command::Push(Coarse(part(number, ties), number)),
         Kind::Pop => Command::Pop,
         Kind::PopIf => Command::PopIf(predicate),
         Kind::Ask => Command::Ask(predicate),
         Kind::Len => Command::Len,
         Kind::Retain => Command::Retain(predicate),
-        Kind::Extend => Command::Extend(coarse_items(alloc, number)?),
-        Kind::Append => Command::Append(DaryHeap::from(coarse_items(alloc, number)?)),
+        Kind::Extend => Command::Extend(coarse_items(alloc, number, ties)?),
+        Kind::Append => Command::Append(DaryHeap::from(coarse_items(alloc, number, ties)?)),
         Kind::Clear => Command::Clear,
     })
 }
 
 /// The part of a greatest item that is compared.
-fn greatest(bag: &[u32]) -> Option<u32> {
-    bag.iter().map(|item| *item / 4).max()
+fn greatest(bag: &[u32], ties: bool) -> Option<u32> {
+    bag.iter().map(|item| part(*item, ties)).max()
 }
 
 /// Takes an item out of the bag, if it is there.
@@ -135,9 +145,9 @@ fn take(bag: &mut Vec<u32>, item: u32) -> bool {
 }
 
 /// Whether a pop of the bag may give this. It is taken out.
-fn pops(bag: &mut Vec<u32>, item: Option<&Coarse>) -> bool {
+fn pops(bag: &mut Vec<u32>, ties: bool, item: Option<&Coarse>) -> bool {
     match item {
-        Some(item) => greatest(bag) == Some(item.0 / 4) && take(bag, item.0),
+        Some(item) => greatest(bag, ties) == Some(item.0) && take(bag, item.1),
         None => bag.is_empty(),
     }
 }
@@ -146,22 +156,23 @@ fn pops(bag: &mut Vec<u32>, item: Option<&Coarse>) -> bool {
 fn replies<const D: usize>(
     alloc: Global,
     bag: &mut Vec<u32>,
+    ties: bool,
     kind: Kind,
     number: u32,
     reply: &Reply<Coarse, D>,
 ) -> Result<bool, AllocError> {
     match (kind, reply) {
         (Kind::Push, Reply::Pushed) => bag.push(number)?,
-        (Kind::Pop, Reply::Popped(item)) => return Ok(pops(bag, item.as_ref())),
-        (Kind::PopIf, Reply::Popped(item)) => match greatest(bag) {
-            Some(part) if passes(number, part) => return Ok(pops(bag, item.as_ref())),
+        (Kind::Pop, Reply::Popped(item)) => return Ok(pops(bag, ties, item.as_ref())),
+        (Kind::PopIf, Reply::Popped(item)) => match greatest(bag, ties) {
+            Some(part) if passes(number, part) => return Ok(pops(bag, ties, item.as_ref())),
             _ => return Ok(item.is_none()),
         },
         (Kind::Ask, Reply::Asked(answer)) => {
-            return Ok(*answer == greatest(bag).map(|part| passes(number, part)));
+            return Ok(*answer == greatest(bag, ties).map(|part| passes(number, part)));
         }
         (Kind::Len, Reply::Len(len)) => return Ok(*len == bag.len()),
-        (Kind::Retain, Reply::Done) => bag.retain(|item| passes(number, *item / 4)),
+        (Kind::Retain, Reply::Done) => bag.retain(|item| passes(number, part(*item, ties))),
         (Kind::Extend | Kind::Append, Reply::Done) => bag.extend(many(alloc, number)?)?,
         (Kind::Clear, Reply::Done) => bag.clear(),
         _ => return Ok(false),
@@ -174,16 +185,17 @@ fn replies<const D: usize>(
 fn act_as_on_a_bag<const D: usize>(
     rt: &impl Abort,
     alloc: Global,
+    ties: bool,
     rng: &mut Pcg32,
 ) -> Result<(), Fail> {
     let mut drawn = Vec::with_capacity(alloc, 30)?;
     let mut commands = Vec::with_capacity(alloc, 30)?;
     for _ in 0..30 {
         let (kind, number) = draw(rng);
-        let predicate = move |item: &Coarse| passes(number, item.0 / 4);
+        let predicate = move |item: &Coarse| passes(number, item.0);
         drawn.push((kind, number))?;
         commands
-            .push(command::<D, _>(alloc, kind, number, predicate)?)
+            .push(command::<D, _>(alloc, kind, number, ties, predicate)?)
             .map_err(AllocError::from)?;
     }
     let mut heap = DaryHeap::<Coarse, D>::new(alloc);
@@ -193,21 +205,22 @@ fn act_as_on_a_bag<const D: usize>(
     assert_eq!(rt; given.len(), drawn.len());
     let mut bag = Vec::new(alloc);
     for ((kind, number), reply) in drawn.iter().zip(&given) {
-        let is_right = replies(alloc, &mut bag, *kind, *number, reply)?;
+        let is_right = replies(alloc, &mut bag, ties, *kind, *number, reply)?;
         assert!(rt; is_right, "{kind:?} {number}, after which {bag:?}");
     }
     for item in heap.as_slice() {
-        assert!(rt; take(&mut bag, item.0));
+        assert!(rt; take(&mut bag, item.1));
     }
     assert!(rt; bag.is_empty());
     Ok(())
 }
 
-/// Three hundred lists at one arity.
+/// Three hundred lists at one arity, half of them with ties.
 fn lists<const D: usize>(rt: &impl Abort, alloc: Global) -> Result<(), Fail> {
     let mut rng = Pcg32::seed_from_u64(0);
-    for _ in 0..300 {
-        act_as_on_a_bag::<D>(rt, alloc, &mut rng)?;
+    for _ in 0..150 {
+        act_as_on_a_bag::<D>(rt, alloc, true, &mut rng)?;
+        act_as_on_a_bag::<D>(rt, alloc, false, &mut rng)?;
     }
     Ok(())
 }
