@@ -1,4 +1,5 @@
 pub mod Asking
+pub mod Callable
 pub mod Cost
 pub mod Depth
 pub mod Drifting

@@ -5,12 +5,7 @@ use Rattle.dary_heap.specs.Bounds.{charge, charges}
 use Rattle.dary_heap.specs.Contents.{Contents}
 use Rattle.dary_heap.specs.Machine as machine
 use Rattle.dary_heap.specs.Machine.{Command, Reply, Step, Run, last_bag}
-use Rattle.dary_heap.specs.Run.{IsServed, PushesServed, Runs, Serves, room, sure_after}
-
--- how many pushes are sure after a run before which so many were
-abbrev pub sure_at_end : {T P : Type 0} → ℕ → List (Command T P) → List (Reply T) → ℕ
-sure_at_end sure (command ∷ commands) (reply ∷ replies) = sure_at_end (sure_after sure command reply) commands replies
-sure_at_end sure commands replies = sure
+use Rattle.dary_heap.specs.Run.{IsServed, PushesServed, Runs, Serves, room, sure_after, sure_at_end}
 
 last_bag-more : {T : Type 0} (old new : List T) (bags : List (List T)) → last_bag old (bags ++ new ∷ []) ≡ new
 last_bag-more old new [] = refl
@@ -63,10 +58,10 @@ module _ {T P : Type 0} where
 -- a run of a heap goes on by one command
 module _ {T P : Type 0} {cmp : T → T → Ordering} {answers : P → T → Bool → P → Type 0} {D : ℕ} where
   pub Runs-begins : (heap : Contents T) → Runs cmp answers D heap [] [] heap
-  Runs-begins heap = record { bags = []; run = tt; ends = refl; charged = record { rises = omega arith; within = omega arith }; served = tt }
+  Runs-begins heap = record { bags = []; run = tt; ends = refl; charged = record { rises = omega arith; within = omega arith }; served = tt; sure = omega arith }
 
-  pub Runs-more : (old mid new : Contents T) (commands : List (Command T P)) (replies : List (Reply T)) (command : Command T P) (reply : Reply T) → length commands ≡ length replies → sure_at_end (room old) commands replies ≤ room mid → Runs cmp answers D old commands replies mid → Serves cmp answers D mid command reply new → Runs cmp answers D old (commands ++ command ∷ []) (replies ++ reply ∷ []) new
-  Runs-more old mid new commands replies command reply long sure runs serves =
+  pub Runs-more : (old mid new : Contents T) (commands : List (Command T P)) (replies : List (Reply T)) (command : Command T P) (reply : Reply T) → length commands ≡ length replies → Runs cmp answers D old commands replies mid → Serves cmp answers D mid command reply new → Runs cmp answers D old (commands ++ command ∷ []) (replies ++ reply ∷ []) new
+  Runs-more old mid new commands replies command reply long runs serves =
       let costs = charges-more cmp answers D old.items new.items commands replies runs.bags command reply runs.run in
       let last = ap (λ xs. charge D (length xs) command reply (length new.items)) runs.ends in
       record {
@@ -74,9 +69,6 @@ module _ {T P : Type 0} {cmp : T → T → Ordering} {answers : P → T → Bool
         run = Run-more cmp answers old.items new.items commands replies runs.bags command reply runs.run (rw runs.ends serves.step);
         ends = last_bag-more old.items new.items runs.bags;
         charged = record { rises = omega arith; within = omega (arith, costs, last) };
-        served = PushesServed-more (room old) commands replies command reply long runs.served (IsServed-fewer _ _ command reply sure serves.served);
+        served = PushesServed-more (room old) commands replies command reply long runs.served (IsServed-fewer _ _ command reply runs.sure serves.served);
+        sure = omega (arith, sure_at_end-more (room old) commands replies command reply long, sure_after-fewer _ _ command reply runs.sure, serves.sure);
       }
-
-  pub sure-more : (old mid new : Contents T) (commands : List (Command T P)) (replies : List (Reply T)) (command : Command T P) (reply : Reply T) → length commands ≡ length replies → sure_at_end (room old) commands replies ≤ room mid → Serves cmp answers D mid command reply new → sure_at_end (room old) (commands ++ command ∷ []) (replies ++ reply ∷ []) ≤ room new
-  sure-more old mid new commands replies command reply long sure serves =
-      omega (arith, sure_at_end-more (room old) commands replies command reply long, sure_after-fewer _ _ command reply sure, serves.sure)

@@ -1,6 +1,6 @@
 -- What the caller of a run owes: its predicates may be called on the items that come up in it.
 use Rattle.std.specs.Prelude.{Bool, List, [], ◌∷◌, ◌++◌, Contains}
-use Rattle.std.specs.Fn.{Mut, TakesAt, CalledAt, always_mut}
+use Rattle.std.specs.Fn.{Mut, TakesAt, CalledAt}
 use denote.Ref.{Bor}
 use Rattle.dary_heap.specs.Machine.{Act, Write, Refresh, Command, Push, PopIf, Ask, Retain, Extend, Append, Loan}
 
@@ -13,16 +13,6 @@ module _ {T P : Type 0} (calls : Mut P (Bor T × Unit {0}) Bool) where
   -- p may be called on every one of these items, in any order and any number of times
   pub record IsCallableOn (items : List T) (p : P) : Type 0 where
     pub in_turn : (xs : List T) → ((x : T) → Contains xs x → Contains items x) → TakesInTurn p xs
-
-module _ {T P : Type 0} (calls : Mut P (Bor T × Unit {0}) Bool) where
-  takes_in_turn : (p : P) → always_mut calls p → (xs : List T) → TakesInTurn calls p xs
-  takes_in_turn p h [] = tt
-  takes_in_turn p h (x ∷ xs) =
-      (λ y is. (h.at ((y, tt) ∷ [])).0, λ answer after call. takes_in_turn after (record { at = λ ys. (h.at ((call.shown, tt) ∷ ys)).1 answer after call.called }) xs)
-
-  -- a predicate that may be called on anything may be called on these items
-  pub IsCallableOn-always : (items : List T) (p : P) → always_mut calls p → IsCallableOn calls items p
-  IsCallableOn-always items p h = record { in_turn = λ xs among. takes_in_turn p h xs }
 
 -- the items that acts on a loan hold
 abbrev pub written : {T : Type 0} → List (Act T) → List T

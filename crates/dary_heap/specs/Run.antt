@@ -27,6 +27,11 @@ sure_after sure Len reply = sure
 sure_after sure (Reserve n) Done = n
 sure_after sure command reply = 0
 
+-- how many pushes are sure after a run before which so many were
+abbrev pub sure_at_end : {T P : Type 0} → ℕ → List (Command T P) → List (Reply T) → ℕ
+sure_at_end sure (command ∷ commands) (reply ∷ replies) = sure_at_end (sure_after sure command reply) commands replies
+sure_at_end sure commands replies = sure
+
 -- in a run before which so many pushes are sure, each push that is sure replies `Pushed`
 abbrev pub PushesServed : {T P : Type 0} → ℕ → List (Command T P) → List (Reply T) → Type 0
 PushesServed sure [] replies = Unit {0}
@@ -45,6 +50,8 @@ module _ {T P : Type 0} (cmp : T → T → Ordering) (answers : P → T → Bool
     pub charged : RisesWithin old.comparisons new.comparisons (charges D old.items commands replies bags)
     -- no push that there is room for is refused
     pub served : PushesServed (room old) commands replies
+    -- for as many as are sure afterwards there is room
+    pub sure : sure_at_end (room old) commands replies ≤ room new
 
   -- a heap gave this reply to this command
   pub record Serves (old : Contents T) (command : Command T P) (reply : Reply T) (new : Contents T) : Type 0 where

@@ -126,14 +126,15 @@ impl<T: Ord, const D: usize> DaryHeap<T, D> {
     /// Adds an item.
     ///
     /// It takes at most as many comparisons as the new place is deep. Where the length has reached the
-    /// capacity it asks for memory. Where that is refused, and only then, the item comes back and the
-    /// heap is as it was.
+    /// capacity, and only there, it asks for memory. Where that is refused, and only then, the item
+    /// comes back and the heap is as it was.
     pub fn push(&mut self, item: T) -> Result<(), T>
         ensures bag { OnOk result (IsSameBag (item ∷ self.old.items) self.new.items) }
         ensures counted { OnOk result (RisesWithin self.old.comparisons self.new.comparisons (push_bound D (length self.old.items))) }
         ensures len { length self.new.items ≡ length self.old.items + (if is_ok result then 1 else 0) }
         ensures ordered { IsHeapOrdered T.cmp D self.new.items }
         ensures capacity { self.old.capacity ≤ self.new.capacity }
+        ensures kept { length self.old.items < self.old.capacity → self.new.capacity ≡ self.old.capacity }
 
         // It is refused only where the heap is full, and then nothing has changed.
         ensures succeeds { length self.old.items < self.old.capacity → IsOk result }

@@ -3,7 +3,7 @@
 //! [`run`] carries a list of commands out on a heap. Its contract says that the replies and the items
 //! are a run of the bag machine of `specs/Machine.antt`, which knows no tree and no memory: a pop gives
 //! any item that no other exceeds.
-ghost use Rattle.std.specs.Prelude.{◌≡◌, ◌++◌, ◌∷◌, [], All, IfOk, IfErr};
+ghost use Rattle.std.specs.Prelude.{◌≡◌, ◌++◌, ◌∷◌, [], length, All, IfOk, IfErr, IsOk};
 ghost use Rattle.std.specs.Fn.{CalledAt};
 ghost use Rattle.dary_heap.specs.Asking.{IsCallableOn, items_in, predicates_in};
 ghost use Rattle.dary_heap.specs.HeapOrder.{IsHeapOrdered};
@@ -65,13 +65,13 @@ pub enum Reply<T: Ord, const D: usize> {
 ///
 /// The replies and the items are a run of the bag machine. Of the pushes, as many as there is room for
 /// at the start are not refused, where no more than pushes, pops, questions and counts come before
-/// them. The heap takes at most the sum of the charges of the steps, in comparisons: for a push the
+/// them; and where nothing else comes at all, there is room for the rest of them afterwards. The heap takes at most the sum of the charges of the steps, in comparisons: for a push the
 /// depth of the new place, for a pop the arity times the depth of the last place that remains, for an
 /// extend the repair of as many items as came in, for an append that of as many as the shorter heap
 /// had, for a retain that of all that are left, and for the others none.
 ///
-/// Room for all replies is reserved first. Where that is refused, and only then, the commands come back
-/// in their order, and the heap is as it was.
+/// Room for all replies is reserved first; no command needs none. Where that is refused, and only then,
+/// the commands come back in their order, and the heap is as it was.
 pub fn run<T: Ord + Drop, const D: usize, P: FnMut(&T) -> bool>(
     alloc: Global,
     heap: &mut DaryHeap<T, D>,
@@ -83,7 +83,8 @@ pub fn run<T: Ord + Drop, const D: usize, P: FnMut(&T) -> bool>(
     ensures runs { IfOk result (λ replies. Runs T.cmp (CalledAt P.FnMut) D heap.old (read.commands commands.items) (read.replies replies.items) heap.new) }
     ensures ordered { IsHeapOrdered T.cmp D heap.new.items }
 
-    // Without memory for the replies nothing is done.
+    // Without memory for the replies nothing is done. No command needs none.
+    ensures empty { length commands.items ≡ 0 → IsOk result }
     ensures returned { IfErr result (λ back. back.items ≡ commands.items) }
     ensures unchanged { IfErr result (λ back. heap.new ≡ heap.old) }
 {

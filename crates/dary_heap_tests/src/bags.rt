@@ -181,7 +181,7 @@ fn replies<const D: usize>(
 }
 
 /// Draws a list of commands, runs it on a new heap, and compares the replies and what is left.
-#[tactic(auto, using(crate::proofs::Callable::all_callable))]
+#[tactic(auto, using(dary_heap::proofs::Callable::all_callable))]
 fn act_as_on_a_bag<const D: usize>(
     rt: &impl Abort,
     alloc: Global,

@@ -5,7 +5,7 @@ use std::mem;
 use std::test::Fail;
 
 #[test]
-#[tactic(auto, using(crate::proofs::Callable::all_callable))]
+#[tactic(auto, using(dary_heap::proofs::Callable::all_callable))]
 fn a_run_gives_a_reply_to_each_command(rt: HostRuntime) -> Result<(), Fail> {
     let mut heap = TernaryHeap::<i32>::new(rt.alloc());
     let at_least_5 = |item: &i32| *item >= 5;
@@ -41,7 +41,7 @@ fn a_run_gives_a_reply_to_each_command(rt: HostRuntime) -> Result<(), Fail> {
 }
 
 #[test]
-#[tactic(auto, using(crate::proofs::Callable::all_callable))]
+#[tactic(auto, using(dary_heap::proofs::Callable::all_callable))]
 fn a_run_joins_and_filters(rt: HostRuntime) -> Result<(), Fail> {
     let mut heap = BinaryHeap::<i32>::new(rt.alloc());
     let other = BinaryHeap::from([5, 6, 7].to_vec(rt.alloc())?);

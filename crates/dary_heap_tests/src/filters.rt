@@ -36,7 +36,7 @@ fn a_predicate_is_asked_about_the_greatest_item_once(rt: HostRuntime) -> Result<
 }
 
 #[test]
-#[tactic(auto, using(crate::proofs::Callable::asked_in_turn))]
+#[tactic(auto, using(dary_heap::proofs::Callable::takes_in_turn))]
 fn a_predicate_is_asked_about_each_item_in_order(rt: HostRuntime) -> Result<(), Fail> {
     let mut heap = OctonaryHeap::from([-10, -5, 1, 2, 4, 13].to_vec(rt.alloc())?);
     assert_eq!(rt; heap.as_slice(), [13, -5, 1, 2, 4, -10].as_slice());
@@ -53,7 +53,7 @@ fn a_predicate_is_asked_about_each_item_in_order(rt: HostRuntime) -> Result<(), 
 }
 
 #[test]
-#[tactic(auto, using(crate::proofs::Callable::asked_in_turn))]
+#[tactic(auto, using(dary_heap::proofs::Callable::takes_in_turn))]
 fn what_is_kept_is_mended(rt: HostRuntime) -> Result<(), Fail> {
     let mut heap = BinaryHeap::from([9, 8, 2, 1, 3].to_vec(rt.alloc())?);
     assert_eq!(rt; heap.as_slice(), [9, 8, 2, 1, 3].as_slice());
@@ -68,7 +68,7 @@ fn what_is_kept_is_mended(rt: HostRuntime) -> Result<(), Fail> {
 }
 
 #[test]
-#[tactic(auto, using(crate::proofs::Callable::asked_in_turn))]
+#[tactic(auto, using(dary_heap::proofs::Callable::takes_in_turn))]
 fn a_predicate_may_answer_by_turns(rt: HostRuntime) -> Result<(), Fail> {
     let mut heap = OctonaryHeap::from([-10, -5, 1, 2, 4, 13].to_vec(rt.alloc())?);
     let mut answer = false;
@@ -81,7 +81,7 @@ fn a_predicate_may_answer_by_turns(rt: HostRuntime) -> Result<(), Fail> {
 }
 
 #[test]
-#[tactic(auto, using(crate::proofs::Callable::asked_in_turn))]
+#[tactic(auto, using(dary_heap::proofs::Callable::takes_in_turn))]
 fn a_heap_that_keeps_all_stays_as_it_is(rt: HostRuntime) -> Result<(), Fail> {
     let mut heap = OctonaryHeap::from([-10, -5, 1, 2, 4, 13].to_vec(rt.alloc())?);
     heap.retain(|_| true);

@@ -12,7 +12,7 @@ use std::process::Abort;
 use std::test::Fail;
 
 /// Makes a call on a heap, after which the cell has what it noted.
-#[tactic(auto, using(crate::proofs::Callable::asked_in_turn))]
+#[tactic(auto, using(dary_heap::proofs::Callable::takes_in_turn))]
 fn make<'a, const D: usize>(
     alloc: Global,
     heap: &mut DaryHeap<Noting<'a>, D>,

@@ -25,11 +25,13 @@ fn a_push_compares_on_the_way_up(rt: HostRuntime) -> Result<(), Fail> {
 
 #[test]
 fn a_pop_goes_down_and_up_again(rt: HostRuntime) -> Result<(), Fail> {
-    let cases: [(&[i32], Option<i32>, &[i32], u64); 5] = [
+    let cases: [(&[i32], Option<i32>, &[i32], u64); 6] = [
         (&[], None, &[], 0),
         (&[7], Some(7), &[], 0),
         (&[5, 4, 3, 1, 2], Some(5), &[4, 2, 3, 1], 3),
         (&[5, 3, 4, 1, 2], Some(5), &[4, 3, 2, 1], 2),
+        // A way down that compares the item itself would make four.
+        (&[7, 6, 5, 4, 3, 2, 1], Some(7), &[6, 4, 5, 1, 3, 2], 3),
         // The root was written.
         (&[0, 2, 1], Some(0), &[2, 1], 1),
     ];

@@ -81,7 +81,7 @@ fn append<const D: usize>(
     did_mend(rt, &heap, &calls, longer, start)
 }
 
-#[tactic(auto, using(crate::proofs::Callable::asked_in_turn))]
+#[tactic(auto, using(dary_heap::proofs::Callable::takes_in_turn))]
 fn retain<const D: usize>(
     rt: &impl Abort,
     alloc: Global,

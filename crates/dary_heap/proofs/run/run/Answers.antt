@@ -5,7 +5,7 @@ use Rattle.std.specs.Vec.Iter.{into_iter_items}
 use Rattle.dary_heap.specs.Asking.{IsCallableOn, items_in, predicates_in}
 use Rattle.dary_heap.specs.Reading as read
 use Rattle.dary_heap.proofs.Asking.{callable_one, items_of_one}
-use Rattle.dary_heap.proofs.Runs.{Runs-begins, Runs-more, sure-more}
+use Rattle.dary_heap.proofs.Runs.{Runs-begins, Runs-more}
 use Rattle.dary_heap.proofs.Serving.{empty}
 use Rattle.dary_heap.proofs.run.run.Goals as goal
 
@@ -22,7 +22,6 @@ loop-command-init g c =
       told = ap length c.in-Ok.ensures.items;
       space = omega (arith, ap length c.in-Ok.ensures.items, gives.1, c.len.ensures, c.in-Ok.ensures.capacity);
       runs = rw c.in-Ok.ensures.items (Runs-begins c.args.heap.now);
-      sure = omega arith;
       among = λ x in'. Contains-append_left c.args.heap.now.items _ x in';
       ordered = c.as_slice.ensures.ordered;
     }
@@ -54,8 +53,7 @@ loop-command-preserved g c =
       left = omega (arith, ap length steps.0, steps.1, before.left);
       told = omega (arith, ap length c.push_reserved.ensures.items, length-append c.loop-command.replies.items (c.serve.result ∷ []), length-append yielded (command ∷ []), before.told);
       space = omega (arith, ap length c.push_reserved.ensures.items, length-append c.loop-command.replies.items (c.serve.result ∷ []), c.push_reserved.ensures.capacity, steps.1, before.space);
-      runs = rw (asked, told) (Runs-more c.args.heap.now c.loop-command.heap c.serve.new.heap (read.commands yielded) (read.replies c.loop-command.replies.items) (read.command command) (read.reply c.serve.result) long before.sure before.runs c.serve.ensures);
-      sure = rw (asked, told) (sure-more c.args.heap.now c.loop-command.heap c.serve.new.heap (read.commands yielded) (read.replies c.loop-command.replies.items) (read.command command) (read.reply c.serve.result) long before.sure c.serve.ensures);
+      runs = rw (asked, told) (Runs-more c.args.heap.now c.loop-command.heap c.serve.new.heap (read.commands yielded) (read.replies c.loop-command.replies.items) (read.command command) (read.reply c.serve.result) long before.runs c.serve.ensures);
       among = λ x in'. elim (Contains-append_cases c.loop-command.heap.items _ x (c.serve.ensures.among x in')) [
         | inl held ↦ before.among x held
         | inr brought ↦ Contains-append_right c.args.heap.now.items _ x (subst (λ cs. Contains (items_in cs) x) (sym seen) (items_of_one (read.commands yielded) (read.command command) (read.commands rest) x brought))

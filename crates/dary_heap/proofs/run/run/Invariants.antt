@@ -4,8 +4,7 @@ use Rattle.std.specs.Vec.Iter.{into_iter_items, into_iter_len}
 use Rattle.dary_heap.specs.Asking.{items_in}
 use Rattle.dary_heap.specs.HeapOrder.{IsHeapOrdered}
 use Rattle.dary_heap.specs.Reading as read
-use Rattle.dary_heap.specs.Run.{Runs, room}
-use Rattle.dary_heap.proofs.Runs.{sure_at_end}
+use Rattle.dary_heap.specs.Run.{Runs}
 use Rattle.dary_heap.proofs.run.run.Given as goal
 
 abbrev pub invariant-loop-command : goal.invariant-loop-command
@@ -15,7 +14,6 @@ invariant-loop-command g l = record {
   told : length l.replies.items ≡ length l.yielded;
   space : length l.replies.items + into_iter_len l.command-iterator ≤ vec_capacity l.replies;
   runs : Runs g.T.Ord.cmp (CalledAt g.P.FnMut) g.row.D l.fn.heap (read.commands l.yielded) (read.replies l.replies.items) l.heap;
-  sure : sure_at_end (room l.fn.heap) (read.commands l.yielded) (read.replies l.replies.items) ≤ room l.heap;
   among : (x : _) → Contains l.heap.items x → Contains (l.fn.heap.items ++ items_in (read.commands l.fn.commands.items)) x;
   ordered : IsHeapOrdered g.T.Ord.cmp g.row.D l.heap.items;
 }
