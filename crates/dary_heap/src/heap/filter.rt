@@ -83,8 +83,8 @@ fn keep<T: Drop, F: FnMut(&T) -> bool>(items: &mut Vec<T>, mut f: F) -> usize
         if f(&items[place]) {
             items.swap(kept, place);
             kept += 1;
-        } else if kept == place {
-            start = place;
+        } else {
+            start = start.min(place);
         }
     }
     items.truncate(kept);

@@ -7,7 +7,7 @@ use Rattle.dary_heap.specs.Filtering.{first_no}
 use Rattle.dary_heap.proofs.Exchange.{exchanges}
 use Rattle.dary_heap.proofs.Filtering.{ReturnsInTurn-more, picked-yes, picked-no, first_no-yes, first_no-no, first_no-still, next_asked, take-brought}
 use Rattle.dary_heap.proofs.heap.filter.keep.Goals as goal
-use Rattle.dary_heap.proofs.heap.filter.keep.Goals.{then-f, else-f+then-kept-place, else-f+else-kept-place}
+use Rattle.dary_heap.proofs.heap.filter.keep.Goals.{then-f, else-f}
 
 pub loop-place-init : goal.loop-place-init
 loop-place-init g c = record {
@@ -69,10 +69,8 @@ loop-place-preserved g c =
             };
             capacity = omega (arith, w.swap.ensures.capacity, before.capacity);
           }
-      | else-f+then-kept-place w ↦
+      | else-f w ↦
           let no_called = subst (λ b. CalledAt g.F.FnMut c.loop-place.f x b c.f.new.self) w.if-f.false called in
-          let all = told.all (omega arith) in
-          let first = first_no-no told.answers all.0 in
           rw (w.items-is, w.kept-is, w.start-is) record {
             len = before.len;
             few = omega arith;
@@ -84,26 +82,15 @@ loop-place-preserved g c =
               asked = ReturnsInTurn-more calls c.args.f c.loop-place.f c.f.new.self told.answers false old x at told.asked no_called;
               front = told.front ∙ sym (picked-no told.answers old);
               all = λ same. absurd (omega arith);
-              some = λ fewer. (omega (arith, first, told.so_far), omega (arith, first, length-append told.answers (false ∷ [])));
-            };
-            capacity = before.capacity;
-          }
-      | else-f+else-kept-place w ↦
-          let no_called = subst (λ b. CalledAt g.F.FnMut c.loop-place.f x b c.f.new.self) w.if-f.false called in
-          let some = told.some (omega arith) in
-          let still = first_no-still told.answers false some.1 in
-          rw (w.items-is, w.kept-is, w.start-is) record {
-            len = before.len;
-            few = omega arith;
-            callable = callable;
-            rest = λ i low. before.rest i (omega arith);
-            told = record {
-              answers = told.answers ++ false ∷ [];
-              so_far = omega (arith, length-append told.answers (false ∷ []), told.so_far);
-              asked = ReturnsInTurn-more calls c.args.f c.loop-place.f c.f.new.self told.answers false old x at told.asked no_called;
-              front = told.front ∙ sym (picked-no told.answers old);
-              all = λ same. absurd (omega arith);
-              some = λ fewer. (some.0 ∙ sym still, omega (arith, still, some.1, length-append told.answers (false ∷ [])));
+              some = λ fewer. elim (cases_eq kept place) [
+                | inl none ↦
+                    let first = first_no-no told.answers (told.all none).0 in
+                    (omega (arith, first, told.so_far, (told.all none).1, w.min-start.ensures), omega (arith, first, length-append told.answers (false ∷ [])))
+                | inr other ↦
+                    let some = told.some (omega arith) in
+                    let still = first_no-still told.answers false some.1 in
+                    (omega (arith, still, some.0, some.1, told.so_far, w.min-start.ensures), omega (arith, still, some.1, length-append told.answers (false ∷ [])))
+              ];
             };
             capacity = before.capacity;
           }
