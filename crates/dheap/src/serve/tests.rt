@@ -62,24 +62,27 @@ fn strings(alloc: Global, words: &[&str]) -> Result<Vec<String>, AllocError> {
     Ok(strings)
 }
 
-/// Asserts what a run answers and writes.
-fn expect_run<R: Abort + AllocGlobal>(
-    rt: &R,
+/// The status of a run over these streams.
+fn status<R: Read + Drop, W: Write, E: Write>(
+    alloc: Global,
     words: &[&str],
-    input: &[u8],
+    mut input: R,
+    output: &mut W,
+    errors: &mut E,
+) -> Result<u8, AllocError> {
+    let words = strings(alloc, words)?;
+    Ok(serve(alloc, words.as_slice(), &mut input, output, errors))
+}
+
+/// Asserts what a run answers and writes.
+fn expect_run<A: Abort + AllocGlobal, R: Read + Drop>(
+    rt: &A,
+    words: &[&str],
+    input: R,
     want: (u8, &str, &str),
 ) -> Result<(), AllocError> {
-    let alloc = rt.alloc();
-    let words = strings(alloc, words)?;
-    let mut input = input;
-    let (mut output, mut errors) = (Vec::new(alloc), Vec::new(alloc));
-    let status = serve(
-        alloc,
-        words.as_slice(),
-        &mut input,
-        &mut output,
-        &mut errors,
-    );
+    let (mut output, mut errors) = (Vec::new(rt.alloc()), Vec::new(rt.alloc()));
+    let status = status(rt.alloc(), words, input, &mut output, &mut errors)?;
     assert_eq!(rt; status, want.0);
     assert_eq!(rt; output.as_slice(), want.1.as_bytes());
     assert_eq!(rt; errors.as_slice(), want.2.as_bytes());
@@ -157,8 +160,8 @@ fn the_first_bad_line_is_named(rt: HostRuntime) -> Result<(), Fail> {
     for (input, errors) in table {
         expect_run(&rt, &["3"], input.as_bytes(), (1, "", errors))?;
     }
-    expect_run(&rt, &["3"], b"pop\n\xff\nfoo\n", (1, "", second))?;
-    expect_run(&rt, &["3"], b"pop\nfoo\n\xff\n", (1, "", second))?;
+    expect_run(&rt, &["3"], b"pop\n\xff\nfoo\n".as_slice(), (1, "", second))?;
+    expect_run(&rt, &["3"], b"pop\nfoo\n\xff\n".as_slice(), (1, "", second))?;
     Ok(())
 }
 
@@ -170,23 +173,12 @@ fn a_read_that_fails_ends_the_run(rt: HostRuntime) -> Result<(), Fail> {
         (ErrorKind::Interrupted, 0, "ok\n1\n", ""),
     ];
     for (kind, want, answers, message) in table {
-        let mut input = Torn {
+        let input = Torn {
             before: b"push 1\n",
             fault: Some(kind),
             after: b"pop",
         };
-        let words = strings(rt.alloc(), &["3"])?;
-        let (mut output, mut errors) = (Vec::new(rt.alloc()), Vec::new(rt.alloc()));
-        let status = serve(
-            rt.alloc(),
-            words.as_slice(),
-            &mut input,
-            &mut output,
-            &mut errors,
-        );
-        assert_eq!(rt; status, want);
-        assert_eq!(rt; output.as_slice(), answers.as_bytes());
-        assert_eq!(rt; errors.as_slice(), message.as_bytes());
+        expect_run(&rt, &["3"], input, (want, answers, message))?;
     }
     Ok(())
 }
@@ -195,15 +187,14 @@ fn a_read_that_fails_ends_the_run(rt: HostRuntime) -> Result<(), Fail> {
 fn a_write_that_fails_ends_the_run(rt: HostRuntime) -> Result<(), Fail> {
     for (room, fails_flush) in [(0, false), (3, false), (1000, true)] {
         let mut output = Full { room, fails_flush };
-        let words = strings(rt.alloc(), &["3"])?;
-        let (mut input, mut errors) = (NINE.as_bytes(), Vec::new(rt.alloc()));
-        let status = serve(
+        let mut errors = Vec::new(rt.alloc());
+        let status = status(
             rt.alloc(),
-            words.as_slice(),
-            &mut input,
+            &["3"],
+            NINE.as_bytes(),
             &mut output,
             &mut errors,
-        );
+        )?;
         assert_eq!(rt; status, 4);
         assert_eq!(rt; errors.as_slice(), b"input or output failed\n".as_slice());
     }
@@ -218,15 +209,14 @@ fn a_message_that_cannot_be_written_changes_no_status(rt: HostRuntime) -> Result
                 room,
                 fails_flush: true,
             };
-            let words = strings(rt.alloc(), &[word])?;
-            let (mut input, mut output) = (line.as_bytes(), Vec::new(rt.alloc()));
-            let status = serve(
+            let mut output = Vec::new(rt.alloc());
+            let status = status(
                 rt.alloc(),
-                words.as_slice(),
-                &mut input,
+                &[word],
+                line.as_bytes(),
                 &mut output,
                 &mut errors,
-            );
+            )?;
             assert_eq!(rt; status, want);
             assert_eq!(rt; output.len(), 0);
         }
