@@ -19,6 +19,12 @@ impl<T: Ord, const D: usize> DaryHeap<T, D> {
     /// `peek` shows, and the heap pops exactly where it answers yes. It asks that the predicate may be
     /// called on that item. It takes at most as many comparisons as a pop, and none where
     /// nothing is popped.
+    ///
+    /// ```
+    /// let mut heap = BinaryHeap::from(vec![in alloc; 1, 2]?);
+    /// assert_eq!(rt; heap.pop_if(|item| *item & 1 == 0), Some(2));
+    /// assert_eq!(rt; heap.pop_if(|item| *item & 1 == 0), None);
+    /// ```
     pub fn pop_if<F: FnOnce(&T) -> bool>(&mut self, predicate: F) -> Option<T>
         requires { (item : T) → slice_get self.old.items 0 ≡ Some item → FnOnceTakesAt F.FnOnce predicate item }
         ensures empty { self.old.items ≡ [] → result ≡ None }
@@ -46,6 +52,12 @@ impl<T: Ord, const D: usize> DaryHeap<T, D> {
     /// the items that are kept stay in their order, and those from the first removed place on are
     /// mended: it takes at most as many comparisons as the repair of a tail of as many items as are left
     /// from that place on.
+    ///
+    /// ```
+    /// let mut heap = BinaryHeap::from(vec![in alloc; 9, 8, 2, 1, 3]?);
+    /// heap.retain(|item| *item & 1 == 1);
+    /// assert_eq!(rt; heap.as_slice(), [9, 1, 3].as_slice());
+    /// ```
     pub fn retain<F: FnMut(&T) -> bool>(&mut self, f: F)
     where
         T: Drop,

@@ -21,6 +21,14 @@ impl<T: Ord, const D: usize> DaryHeap<T, D> {
     /// and then both heaps are as they were. Otherwise the items of the shorter are put behind and
     /// mended: it takes at most as many comparisons as the repair of that tail. Each heap keeps its own
     /// count, and `other` compares nothing.
+    ///
+    /// ```
+    /// let mut heap = BinaryHeap::from(vec![in alloc; 1, 2]?);
+    /// let mut other = BinaryHeap::from(vec![in alloc; 3, 4]?);
+    /// heap.append(&mut other)?;
+    /// assert_eq!(rt; heap.as_slice(), [4, 3, 2, 1].as_slice());
+    /// assert!(rt; other.is_empty());
+    /// ```
     pub fn append(&mut self, other: &mut Self) -> Result<(), AllocError>
         ensures bag { OnOk result (IsSameBag (self.old.items ++ other.old.items) self.new.items) }
         ensures emptied { OnOk result (other.new.items ≡ []) }
@@ -119,6 +127,12 @@ fn extend_heap<T: Ord + Drop, X: Element<T>, U: IntoIterator<Item = X>, const D:
 /// It asks that the iterator ends. Where there is no memory for an item, which comes only at full
 /// capacity, the items before it are in the heap, and it and the rest are given up. It takes at most as
 /// many comparisons as the repair of a tail of as many items as came in.
+///
+/// ```
+/// let mut heap = BinaryHeap::from(vec![in alloc; 3, 1, 2]?);
+/// heap.extend([9, 8])?;
+/// assert_eq!(rt; heap.as_slice(), [9, 8, 2, 1, 3].as_slice());
+/// ```
 impl<T: Ord + Drop, const D: usize> Extend<T> for DaryHeap<T, D> {
     ghost extend_gives = { λ old xs new. IsExtended T.cmp D old xs new };
 
