@@ -37,6 +37,8 @@ fn a_heap_is_built_from_an_array(rt: HostRuntime) -> Result<(), Fail> {
 fn a_heap_is_collected_from_an_iterator(rt: HostRuntime) -> Result<(), Fail> {
     let heap: BinaryHeap<i32> = (1..4).collect(rt.alloc())?;
     assert_eq!(rt; heap.as_slice(), [3, 2, 1].as_slice());
+    let heap: BinaryHeap<i32> = (0..0).collect(rt.alloc())?;
+    assert!(rt; heap.is_empty());
     Ok(())
 }
 
@@ -47,6 +49,7 @@ fn a_clone_is_a_heap_of_its_own(rt: HostRuntime) -> Result<(), Fail> {
     assert_eq!(rt; copy.as_slice(), [5, 4, 3, 1, 2].as_slice());
     assert_eq!(rt; copy.pop(), Some(5));
     assert_eq!(rt; heap.as_slice(), [5, 4, 3, 1, 2].as_slice());
+    assert!(rt; BinaryHeap::<i32>::new(rt.alloc()).clone()?.is_empty());
     Ok(())
 }
 
