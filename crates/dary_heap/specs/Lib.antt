@@ -1,3 +1,4 @@
+pub mod Appending
 pub mod Asking
 pub mod Bag
 pub mod Bounds

@@ -1,7 +1,8 @@
 //! Many items that come into a heap at once.
-ghost use Rattle.std.specs.Prelude.{◌≡◌, ◌+◌, ◌-◌, ◌<◌, ◌≤◌, ◌++◌, [], ◌∷◌, length, min, List, map, vec_len, vec_capacity, nat_lt, if◌then◌else◌, IsOk, OnOk, OnErr, MatchResult, ⊤};
+ghost use Rattle.std.specs.Prelude.{◌≡◌, ◌+◌, ◌-◌, ◌<◌, ◌≤◌, ◌++◌, [], ◌∷◌, length, min, List, map, vec_len, vec_capacity, IsOk, OnOk, OnErr, MatchResult, ⊤};
 ghost use Rattle.std.specs.Iterator.{ExtendsWithItems, Drains, HoldsAlong, IsFinite};
 ghost use Rattle.std.specs.Borrow.{Bor};
+ghost use Rattle.dary_heap.specs.Appending.{receiving_capacity, moving_capacity};
 ghost use Rattle.dary_heap.specs.Bag.{IsSameBag};
 ghost use Rattle.dary_heap.specs.Bounds.{RisesWithin, mend_bound};
 ghost use Rattle.dary_heap.specs.Contents.{Contents};
@@ -20,7 +21,7 @@ impl<T: Ord, const D: usize> DaryHeap<T, D> {
     /// reserved in it first. That is refused only where its capacity is below the sum of the lengths,
     /// and then both heaps are as they were. Otherwise the items of the shorter are put behind and
     /// mended: it takes at most as many comparisons as the repair of that tail. Each heap keeps its own
-    /// count, and `other` compares nothing.
+    /// count, and `other` compares nothing. Where `other` is the longer the two exchange their capacities.
     ///
     /// ```
     /// let mut heap = BinaryHeap::from(vec![in alloc; 1, 2]?);
@@ -35,10 +36,12 @@ impl<T: Ord, const D: usize> DaryHeap<T, D> {
         ensures ordered { IsHeapOrdered T.cmp D self.new.items }
         ensures counted { OnOk result (RisesWithin self.old.comparisons self.new.comparisons (mend_bound D (length self.new.items) (min (length self.old.items) (length other.old.items)))) }
         ensures uncounted { other.new.comparisons ≡ other.old.comparisons }
+        ensures capacity { OnOk result (receiving_capacity self.old other.old ≤ self.new.capacity) }
+        ensures other_capacity { OnOk result (other.new.capacity ≡ moving_capacity self.old other.old) }
 
         // It is refused only where the longer heap lacks room, and then nothing has changed.
-        ensures succeeds { length self.old.items + length other.old.items ≤ (if nat_lt (length self.old.items) (length other.old.items) then other.old.capacity else self.old.capacity) → IsOk result }
-        ensures full { OnErr result ((if nat_lt (length self.old.items) (length other.old.items) then other.old.capacity else self.old.capacity) < length self.old.items + length other.old.items) }
+        ensures succeeds { length self.old.items + length other.old.items ≤ receiving_capacity self.old other.old → IsOk result }
+        ensures full { OnErr result (receiving_capacity self.old other.old < length self.old.items + length other.old.items) }
         ensures unchanged { OnErr result (self.new ≡ self.old) }
         ensures other_unchanged { OnErr result (other.new ≡ other.old) }
     {
@@ -60,6 +63,8 @@ fn take_in<T: Ord, const D: usize>(items: &mut Vec<T>, others: &mut Vec<T>, judg
     ensures emptied { others.new.items ≡ [] }
     ensures ordered { IsHeapOrdered T.cmp D items.old.items → IsHeapOrdered T.cmp D items.new.items }
     ensures counted { RisesWithin judge.old judge.new (mend_bound D (vec_len items.new) (vec_len others.old)) }
+    ensures capacity { vec_capacity items.old ≤ vec_capacity items.new }
+    ensures other_capacity { vec_capacity others.new ≡ vec_capacity others.old }
 {
     let start = items.len();
     let Ok(()) = items.append(others) else {
