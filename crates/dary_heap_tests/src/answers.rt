@@ -141,6 +141,63 @@ fn pops<J: Judge<u32> + Counts + Drop, const D: usize>(
     Ok(())
 }
 
+/// The first items of a shuffle.
+fn first_items(alloc: Global, seed: &str, size: usize) -> Result<Vec<u32>, Fail> {
+    let mut items = shuffled(alloc, seed.parse()?)?;
+    items.truncate(size);
+    Ok(items)
+}
+
+fn replay_push<J: Judge<u32> + Counts + Drop, const D: usize>(
+    rt: &impl Abort,
+    alloc: Global,
+    (seed, size): (&str, &str),
+    made: &str,
+    after: &str,
+) -> Result<(), Fail> {
+    let items = first_items(alloc, seed, size.parse()?)?;
+    let (made, after) = (numbers(alloc, made)?, numbers(alloc, after)?);
+    pushes::<J, D>(rt, alloc, &items, &made, &after)
+}
+
+fn replay_build<J: Judge<u32> + Counts + Drop, const D: usize>(
+    rt: &impl Abort,
+    alloc: Global,
+    (seed, size): (&str, &str),
+    made: &str,
+    after: &str,
+) -> Result<(), Fail> {
+    let items = first_items(alloc, seed, size.parse()?)?;
+    let (made, after) = (made.parse()?, numbers(alloc, after)?);
+    build::<J, D>(rt, items, made, &after);
+    Ok(())
+}
+
+fn replay_mend<J: Judge<u32> + Counts + Drop, const D: usize>(
+    rt: &impl Abort,
+    alloc: Global,
+    (seed, size, more): (&str, &str, &str),
+    made: &str,
+    after: &str,
+) -> Result<(), Fail> {
+    let (size, more): (usize, usize) = (size.parse()?, more.parse()?);
+    let items = first_items(alloc, seed, size.saturating_add(more))?;
+    let (made, after) = (made.parse()?, numbers(alloc, after)?);
+    let (items, tail) = items.split_at(size.min(items.len()));
+    mend::<J, D>(rt, alloc, items, tail, made, &after)
+}
+
+fn replay_pop<J: Judge<u32> + Counts + Drop, const D: usize>(
+    rt: &impl Abort,
+    alloc: Global,
+    (before, made): (&str, &str),
+    (gives, after): (&str, &str),
+) -> Result<(), Fail> {
+    let (before, made) = (numbers(alloc, before)?, numbers(alloc, made)?);
+    let (gives, after) = (numbers(alloc, gives)?, numbers(alloc, after)?);
+    pops::<J, D>(rt, alloc, &before, &made, &gives, &after)
+}
+
 /// Replays one line of a table, from behind its arity on.
 fn replay_call<J: Judge<u32> + Counts + Drop, const D: usize>(
     rt: &impl Abort,
@@ -150,32 +207,38 @@ fn replay_call<J: Judge<u32> + Counts + Drop, const D: usize>(
     let words: Vec<&str> = call.split(' ').collect(alloc)?;
     match words.as_slice() {
         ["push", seed, size, made, after] => {
-            let mut items = shuffled(alloc, seed.parse()?)?;
-            items.truncate(size.parse()?);
-            let (made, after) = (numbers(alloc, made)?, numbers(alloc, after)?);
-            pushes::<J, D>(rt, alloc, &items, &made, &after)
+            replay_push::<J, D>(rt, alloc, (seed, size), made, after)
         }
         ["build", seed, size, made, after] => {
-            let mut items = shuffled(alloc, seed.parse()?)?;
-            items.truncate(size.parse()?);
-            let (made, after) = (made.parse()?, numbers(alloc, after)?);
-            build::<J, D>(rt, items, made, &after);
-            Ok(())
+            replay_build::<J, D>(rt, alloc, (seed, size), made, after)
         }
         ["mend", seed, size, more, made, after] => {
-            let (size, more): (usize, usize) = (size.parse()?, more.parse()?);
-            let mut items = shuffled(alloc, seed.parse()?)?;
-            items.truncate(size.saturating_add(more));
-            let (made, after) = (made.parse()?, numbers(alloc, after)?);
-            let (items, tail) = items.split_at(size.min(items.len()));
-            mend::<J, D>(rt, alloc, items, tail, made, &after)
+            replay_mend::<J, D>(rt, alloc, (seed, size, more), made, after)
         }
         ["pop", before, made, gives, after] => {
-            let (before, made) = (numbers(alloc, before)?, numbers(alloc, made)?);
-            let (gives, after) = (numbers(alloc, gives)?, numbers(alloc, after)?);
-            pops::<J, D>(rt, alloc, &before, &made, &gives, &after)
+            replay_pop::<J, D>(rt, alloc, (before, made), (gives, after))
         }
         _ => Err(Fail::from("no such call")),
+    }
+}
+
+/// Replays one line of a table at the arity that it begins with.
+fn replay_line<J: Judge<u32> + Counts + Drop>(
+    rt: &impl Abort,
+    alloc: Global,
+    line: &str,
+) -> Result<(), Fail> {
+    let (arity, call) = line.split_once(' ').unwrap_or(("", line));
+    match arity {
+        "1" => replay_call::<J, 1>(rt, alloc, call),
+        "2" => replay_call::<J, 2>(rt, alloc, call),
+        "3" => replay_call::<J, 3>(rt, alloc, call),
+        "4" => replay_call::<J, 4>(rt, alloc, call),
+        "5" => replay_call::<J, 5>(rt, alloc, call),
+        "6" => replay_call::<J, 6>(rt, alloc, call),
+        "7" => replay_call::<J, 7>(rt, alloc, call),
+        "8" => replay_call::<J, 8>(rt, alloc, call),
+        _ => Err(Fail::from("no such arity")),
     }
 }
 
@@ -186,17 +249,7 @@ fn replay<J: Judge<u32> + Counts + Drop>(
     table: &str,
 ) -> Result<(), Fail> {
     for line in table.lines() {
-        match line.split_once(' ') {
-            Some(("1", call)) => replay_call::<J, 1>(rt, alloc, call)?,
-            Some(("2", call)) => replay_call::<J, 2>(rt, alloc, call)?,
-            Some(("3", call)) => replay_call::<J, 3>(rt, alloc, call)?,
-            Some(("4", call)) => replay_call::<J, 4>(rt, alloc, call)?,
-            Some(("5", call)) => replay_call::<J, 5>(rt, alloc, call)?,
-            Some(("6", call)) => replay_call::<J, 6>(rt, alloc, call)?,
-            Some(("7", call)) => replay_call::<J, 7>(rt, alloc, call)?,
-            Some(("8", call)) => replay_call::<J, 8>(rt, alloc, call)?,
-            _ => return Err(Fail::from("no such arity")),
-        }
+        replay_line::<J>(rt, alloc, line)?;
     }
     Ok(())
 }

@@ -180,6 +180,28 @@ fn replies<const D: usize>(
     Ok(true)
 }
 
+/// Compares the replies to commands, and what is left, with a bag that begins without items.
+fn replies_as_a_bag<const D: usize>(
+    rt: &impl Abort,
+    alloc: Global,
+    ties: bool,
+    drawn: &[(Kind, u32)],
+    given: &[Reply<Coarse, D>],
+    left: &[Coarse],
+) -> Result<(), Fail> {
+    assert_eq!(rt; given.len(), drawn.len());
+    let mut bag = Vec::new(alloc);
+    for ((kind, number), reply) in drawn.iter().zip(given) {
+        let is_right = replies(alloc, &mut bag, ties, *kind, *number, reply)?;
+        assert!(rt; is_right, "{kind:?} {number}, after which {bag:?}");
+    }
+    for item in left {
+        assert!(rt; take(&mut bag, item.1));
+    }
+    assert!(rt; bag.is_empty());
+    Ok(())
+}
+
 /// Draws a list of commands, runs it on a new heap, and compares the replies and what is left.
 #[tactic(auto, using(dary_heap::proofs::Callable::all_callable))]
 fn act_as_on_a_bag<const D: usize>(
@@ -202,17 +224,7 @@ fn act_as_on_a_bag<const D: usize>(
     let Ok(given) = run(alloc, &mut heap, commands) else {
         return Err(Fail::from("no room for the replies"));
     };
-    assert_eq!(rt; given.len(), drawn.len());
-    let mut bag = Vec::new(alloc);
-    for ((kind, number), reply) in drawn.iter().zip(&given) {
-        let is_right = replies(alloc, &mut bag, ties, *kind, *number, reply)?;
-        assert!(rt; is_right, "{kind:?} {number}, after which {bag:?}");
-    }
-    for item in heap.as_slice() {
-        assert!(rt; take(&mut bag, item.1));
-    }
-    assert!(rt; bag.is_empty());
-    Ok(())
+    replies_as_a_bag(rt, alloc, ties, &drawn, &given, heap.as_slice())
 }
 
 /// Three hundred lists at one arity, half of them with ties.

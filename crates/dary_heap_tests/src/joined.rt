@@ -69,20 +69,26 @@ fn replay_call<const D: usize>(rt: &impl Abort, alloc: Global, line: &str) -> Re
     Ok(())
 }
 
+/// Replays one line at the arity that it begins with.
+fn replay_line(rt: &impl Abort, alloc: Global, line: &str) -> Result<(), Fail> {
+    let (arity, call) = line.split_once(' ').unwrap_or(("", line));
+    match arity {
+        "1" => replay_call::<1>(rt, alloc, call),
+        "2" => replay_call::<2>(rt, alloc, call),
+        "3" => replay_call::<3>(rt, alloc, call),
+        "4" => replay_call::<4>(rt, alloc, call),
+        "5" => replay_call::<5>(rt, alloc, call),
+        "6" => replay_call::<6>(rt, alloc, call),
+        "7" => replay_call::<7>(rt, alloc, call),
+        "8" => replay_call::<8>(rt, alloc, call),
+        _ => Err(Fail::from("no such arity")),
+    }
+}
+
 #[test]
 fn many_items_are_compared_and_placed_as_in_rust(rt: HostRuntime) -> Result<(), Fail> {
     for line in answers::ANSWERS.lines() {
-        match line.split_once(' ') {
-            Some(("1", line)) => replay_call::<1>(&rt, rt.alloc(), line)?,
-            Some(("2", line)) => replay_call::<2>(&rt, rt.alloc(), line)?,
-            Some(("3", line)) => replay_call::<3>(&rt, rt.alloc(), line)?,
-            Some(("4", line)) => replay_call::<4>(&rt, rt.alloc(), line)?,
-            Some(("5", line)) => replay_call::<5>(&rt, rt.alloc(), line)?,
-            Some(("6", line)) => replay_call::<6>(&rt, rt.alloc(), line)?,
-            Some(("7", line)) => replay_call::<7>(&rt, rt.alloc(), line)?,
-            Some(("8", line)) => replay_call::<8>(&rt, rt.alloc(), line)?,
-            _ => return Err(Fail::from("no such arity")),
-        }
+        replay_line(&rt, rt.alloc(), line)?;
     }
     Ok(())
 }

@@ -76,36 +76,63 @@ pub fn keys(alloc: Global, items: &[Noting<'_>]) -> Result<Vec<u32>, AllocError>
     items.iter().map(|item| item.key).collect(alloc)
 }
 
-/// Pushes and pops on a heap of such items, beside the same on a vector with a judge that counts. The
-/// looks at the heap compare nothing.
+/// Pushes onto a heap of such items, and onto a vector with a judge that counts.
+fn push_onto_both<'a, const D: usize>(
+    rt: &impl Abort,
+    heap: &mut DaryHeap<Noting<'a>, D>,
+    twin: &mut Vec<u32>,
+    calls: &'a Cell<u64>,
+    key: u32,
+) -> Result<(), Fail> {
+    let mut judge = Tally::new();
+    push_with::<u32, Tally, D>(twin, key, &mut judge)?;
+    assert!(rt; heap.push(Noting { key, calls }).is_ok());
+    assert_eq!(rt; calls.replace(0), judge.made(), "{key} now in {twin:?}");
+    Ok(())
+}
+
+/// The looks at a heap compare nothing.
+fn looks_as<'a, const D: usize>(
+    rt: &impl Abort,
+    heap: &DaryHeap<Noting<'a>, D>,
+    twin: &[u32],
+    calls: &Cell<u64>,
+) {
+    let looked = (heap.len(), heap.is_empty(), heap.as_slice().len());
+    assert_eq!(rt; looked, (twin.len(), twin.is_empty(), twin.len()));
+    assert!(rt; heap.capacity() >= twin.len());
+    assert_eq!(rt; heap.peek().map(|item| item.key), twin.first().copied());
+    assert_eq!(rt; calls.get(), 0);
+}
+
+/// Pops from both.
+fn pop_from_both<'a, const D: usize>(
+    rt: &impl Abort,
+    heap: &mut DaryHeap<Noting<'a>, D>,
+    twin: &mut Vec<u32>,
+    calls: &Cell<u64>,
+) {
+    let mut judge = Tally::new();
+    let answer = pop_with::<u32, Tally, D>(twin, &mut judge);
+    assert_eq!(rt; heap.pop().map(|item| item.key), answer);
+    assert_eq!(rt;
+        calls.replace(0),
+        judge.made(),
+        "{answer:?} out of {twin:?}"
+    );
+}
+
+/// Pushes and pops on a heap of such items, beside the same on a vector.
 fn compares_by_its_judge_alone<const D: usize>(rt: &impl Abort, alloc: Global) -> Result<(), Fail> {
     let calls = Cell::new(0);
     let mut heap = DaryHeap::<Noting<'_>, D>::new(alloc);
     let mut twin: Vec<u32> = Vec::new(alloc);
     for key in shuffled(alloc, 0)?.iter().take(40) {
-        let mut judge = Tally::new();
-        push_with::<u32, Tally, D>(&mut twin, *key, &mut judge)?;
-        let item = Noting {
-            key: *key,
-            calls: &calls,
-        };
-        assert!(rt; heap.push(item).is_ok());
-        assert_eq!(rt; calls.replace(0), judge.made(), "{key} now in {twin:?}");
+        push_onto_both(rt, &mut heap, &mut twin, &calls, *key)?;
     }
     for _ in 0..41 {
-        let looked = (heap.len(), heap.is_empty(), heap.as_slice().len());
-        assert_eq!(rt; looked, (twin.len(), twin.is_empty(), twin.len()));
-        assert!(rt; heap.capacity() >= twin.len());
-        assert_eq!(rt; heap.peek().map(|item| item.key), twin.first().copied());
-        assert_eq!(rt; calls.get(), 0);
-        let mut judge = Tally::new();
-        let answer = pop_with::<u32, Tally, D>(&mut twin, &mut judge);
-        assert_eq!(rt; heap.pop().map(|item| item.key), answer);
-        assert_eq!(rt;
-            calls.replace(0),
-            judge.made(),
-            "{answer:?} out of {twin:?}"
-        );
+        looks_as(rt, &heap, &twin, &calls);
+        pop_from_both(rt, &mut heap, &mut twin, &calls);
     }
     assert!(rt; heap.is_empty());
     Ok(())
