@@ -1,5 +1,5 @@
 -- Items that come in one after another.
-use Rattle.std.proofs.Common.{◌≡◌, ℕ, ◌-◌, ◌≤◌, List, [], ◌∷◌, ◌++◌, length, map, refl, ap, subst, Option}
+use Rattle.std.proofs.Common.{◌≡◌, ℕ, ◌-◌, ◌≤◌, List, [], ◌∷◌, ◌++◌, length, refl, subst, Option}
 use Rattle.std.specs.Iterator.{Yields}
 use Rattle.std.specs.declared.cmp.Ordering.{Ordering}
 use Rattle.dary_heap.specs.Bag.{IsSameBag}
@@ -7,10 +7,6 @@ use Rattle.dary_heap.specs.Bounds.{RisesWithin, mend_bound}
 use Rattle.dary_heap.specs.Contents.{Contents}
 use Rattle.dary_heap.specs.Extending.{IsExtended}
 use Rattle.dary_heap.specs.HeapOrder.{IsHeapOrdered}
-
-pub map-same : {X : Type 0} (xs : List X) → map (λ x. x) xs ≡ xs
-map-same [] = refl
-map-same (x ∷ xs) = ap (λ ys. x ∷ ys) (map-same xs)
 
 -- what an iterator gave before its last item
 pub Yields-front : {S A : Type 0} (steps : S → Option A → S → Type 0) (s : S) (xs : List A) (x : A) (u : S) → Yields steps s (xs ++ x ∷ []) u → (t : S) × Yields steps s xs t

@@ -48,15 +48,11 @@ first_no-within [] = omega arith
 first_no-within (true ∷ bs) = omega (arith, first_no-within bs)
 first_no-within (false ∷ bs) = omega arith
 
-pub first_no-yes : (bs : List Bool) → first_no bs ≡ length bs → first_no (bs ++ true ∷ []) ≡ length bs + 1
-first_no-yes [] all = refl
-first_no-yes (true ∷ bs) all = omega (arith, first_no-yes bs (omega arith))
-first_no-yes (false ∷ bs) all = absurd (omega arith)
-
-pub first_no-no : (bs : List Bool) → first_no bs ≡ length bs → first_no (bs ++ false ∷ []) ≡ length bs
-first_no-no [] all = refl
-first_no-no (true ∷ bs) all = omega (arith, first_no-no bs (omega arith))
-first_no-no (false ∷ bs) all = absurd (omega arith)
+-- where each answer was yes, the next one decides
+pub first_no-next : (bs : List Bool) (b : Bool) → first_no bs ≡ length bs → first_no (bs ++ b ∷ []) ≡ length bs + first_no (b ∷ [])
+first_no-next [] b all = omega arith
+first_no-next (true ∷ bs) b all = omega (arith, first_no-next bs b (omega arith))
+first_no-next (false ∷ bs) b all = absurd (omega arith)
 
 -- a no that came before stays the first
 pub first_no-still : (bs : List Bool) (b : Bool) → first_no bs < length bs → first_no (bs ++ b ∷ []) ≡ first_no bs

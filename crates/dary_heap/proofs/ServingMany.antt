@@ -47,10 +47,7 @@ Contains-picked (false ∷ bs) (y ∷ xs) x in' = Contains-append_right (y ∷ [
 pub none_ordered : {X : Type 0} {cmp : X → X → Ordering} {D : ℕ} (xs : List X) → xs ≡ [] → IsHeapOrdered cmp D xs
 none_ordered {cmp = cmp} {D = D} xs none = subst (IsHeapOrdered cmp D) (sym none) (record { below_parent = λ i pos. IsAtMost-none _ _ refl })
 
--- items that come in behind others
-in_both : {X : Type 0} (xs ys : List X) (x : X) → Contains (xs ++ ys) x → Contains (xs ++ (ys ++ [])) x
-in_both xs ys x in' = subst (λ l. Contains (xs ++ l) x) (sym (append-nil ys)) in'
-
+-- items that come in behind others, all of them or a beginning
 front_of_both : {X : Type 0} (xs ys all left : List X) (x : X) → all ≡ ys ++ left → Contains (xs ++ ys) x → Contains (xs ++ (all ++ [])) x
 front_of_both xs ys all left x split in' = elim (Contains-append_cases xs ys x in') [
   | inl first ↦ Contains-append_left xs (all ++ []) x first
@@ -78,7 +75,7 @@ module _ {X P : Type 0} {cmp : X → X → Ordering} {answers : P → X → Bool
     served = tt;
     sure = omega arith;
     ordered = h.ordered;
-    among = λ x in'. in_both old.items xs x (Contains-permutation new.items (old.items ++ xs) x (IsPermutation-sym (old.items ++ xs) new.items h.bag) in');
+    among = λ x in'. front_of_both old.items xs xs [] x (sym (append-nil xs)) (Contains-permutation new.items (old.items ++ xs) x (IsPermutation-sym (old.items ++ xs) new.items h.bag) in');
   }
 
   pub cleared : (old new : Contents X) → new.items ≡ [] → new.comparisons ≡ old.comparisons → Serves cmp answers D old Clear Done new
@@ -110,7 +107,7 @@ module _ {X P : Type 0} {cmp : X → X → Ordering} {answers : P → X → Bool
         served = tt;
         sure = omega arith;
         ordered = ordered;
-        among = λ x in'. in_both old.items other x (Contains-permutation new.items (old.items ++ other) x (IsPermutation-sym (old.items ++ other) new.items bag) in');
+        among = λ x in'. front_of_both old.items other other [] x (sym (append-nil other)) (Contains-permutation new.items (old.items ++ other) x (IsPermutation-sym (old.items ++ other) new.items bag) in');
       }
 
   pub append_refused : (old new : Contents X) (other back : List X) → new ≡ old → back ≡ other → IsHeapOrdered cmp D new.items → Serves cmp answers D old (Append other) (AppendRefused back) new

@@ -5,7 +5,7 @@ use Rattle.std.specs.Fn.{CalledAt}
 use Rattle.dary_heap.specs.Asking.{TakesInTurn}
 use Rattle.dary_heap.specs.Filtering.{first_no}
 use Rattle.dary_heap.proofs.Exchange.{exchanges}
-use Rattle.dary_heap.proofs.Filtering.{ReturnsInTurn-more, picked-yes, picked-no, first_no-yes, first_no-no, first_no-still, next_asked, take-brought}
+use Rattle.dary_heap.proofs.Filtering.{ReturnsInTurn-more, picked-yes, picked-no, first_no-next, first_no-still, next_asked, take-brought}
 use Rattle.dary_heap.proofs.heap.filter.keep.Goals as goal
 use Rattle.dary_heap.proofs.heap.filter.keep.Goals.{then-f, else-f}
 
@@ -64,7 +64,7 @@ loop-place-preserved g c =
               so_far = omega (arith, length-append told.answers (true ∷ []), told.so_far);
               asked = ReturnsInTurn-more calls c.args.f c.loop-place.f c.f.new.self told.answers true old x at told.asked yes_called;
               front = take-brought now w.swap.new.self.items kept place x (omega arith) (omega arith) there e ∙ ap (λ l. l ++ x ∷ []) told.front ∙ sym (picked-yes told.answers old x at);
-              all = λ same. let all = told.all (omega arith) in (omega (arith, first_no-yes told.answers all.0, length-append told.answers (true ∷ [])), all.1);
+              all = λ same. let all = told.all (omega arith) in (omega (arith, first_no-next told.answers true all.0, length-append told.answers (true ∷ [])), all.1);
               some = λ fewer. let some = told.some (omega arith) in let still = first_no-still told.answers true some.1 in (some.0 ∙ sym still, omega (arith, still, some.1, length-append told.answers (true ∷ [])));
             };
             capacity = omega (arith, w.swap.ensures.capacity, before.capacity);
@@ -84,7 +84,7 @@ loop-place-preserved g c =
               all = λ same. absurd (omega arith);
               some = λ fewer. elim (cases_eq kept place) [
                 | inl none ↦
-                    let first = first_no-no told.answers (told.all none).0 in
+                    let first = first_no-next told.answers false (told.all none).0 in
                     (omega (arith, first, told.so_far, (told.all none).1, w.min-start.ensures), omega (arith, first, length-append told.answers (false ∷ [])))
                 | inr other ↦
                     let some = told.some (omega arith) in

@@ -1,5 +1,4 @@
 use Rattle.std.proofs.Common.{◌≡◌, ◌++◌, length, take, map, vec_capacity, sym, ap, ◌∙◌, subst, arith}
-use Rattle.std.proofs.Math.Seq.{take-append_seam}
 use Rattle.std.proofs.lemmas.Result.{MatchResult-weaker}
 use Rattle.dary_heap.specs.Extending.{IsExtended}
 use Rattle.dary_heap.specs.HeapOrder.{IsHeapOrdered}
@@ -20,9 +19,8 @@ all g c = omega arith
 ordered : (g : Over) (c : After-mend_with g) → IsHeapOrdered g.T.Ord.cmp g.row.D c.mend_with.new.items
 ordered g c =
     let xs = c.heap.inside.items.items in
-    let ys = map g.X.Element.value c.push_all-outcome.ensures.came.1 in
     let start : c.len-start.result ≡ length xs = omega arith in
-    let front : take c.len-start.result c.as_mut_slice.result.now ≡ xs = ap (take c.len-start.result) (behind g c) ∙ ap (λ n. take n (xs ++ ys)) start ∙ take-append_seam xs ys in
+    let front : take c.len-start.result c.as_mut_slice.result.now ≡ xs = ap (take c.len-start.result) (behind g c) ∙ written_back _ xs _ (sym start) in
     c.mend_with.ensures.ordered (subst (IsHeapOrdered g.T.Ord.cmp g.row.D) (sym front) c.heap.invariant)
 
 -- what came in is taken into the heap

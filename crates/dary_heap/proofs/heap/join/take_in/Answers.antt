@@ -1,5 +1,4 @@
-use Rattle.std.proofs.Common.{◌≡◌, ◌-◌, ◌++◌, length, take, ap, ◌∙◌, sym, subst, arith}
-use Rattle.std.proofs.Math.Seq.{take-append_seam}
+use Rattle.std.proofs.Common.{◌≡◌, ◌-◌, length, take, ap, ◌∙◌, sym, subst, arith}
 use Rattle.dary_heap.specs.Bounds.{RisesWithin, mend_bound}
 use Rattle.dary_heap.specs.HeapOrder.{IsHeapOrdered}
 use Rattle.dary_heap.proofs.Written.{written_back}
@@ -17,8 +16,7 @@ returns-clause-ordered g c = λ h.
     let xs = c.args.items.now.items in
     let all : length zs ≡ c.append.new.self.len = omega arith in
     let start : c.len-start.result ≡ length xs = omega arith in
-    let front : take c.len-start.result c.as_mut_slice.result.now ≡ xs =
-    ap (take c.len-start.result) (c.as_mut_slice.ensures.value ∙ c.in-Ok.ensures.items) ∙ ap (λ n. take n (xs ++ c.args.others.now.items)) start ∙ take-append_seam xs c.args.others.now.items in
+    let front : take c.len-start.result c.as_mut_slice.result.now ≡ xs = ap (take c.len-start.result) (c.as_mut_slice.ensures.value ∙ c.in-Ok.ensures.items) ∙ written_back _ xs c.args.others.now.items (sym start) in
     rw (written_back _ zs _ all) (c.mend_with.ensures.ordered (subst (IsHeapOrdered g.T.Ord.cmp g.row.D) (sym front) h))
 
 pub returns-clause-counted : goal.returns-clause-counted
