@@ -1,61 +1,14 @@
 //! Random lists of commands, whose replies are compared with those of a plain bag.
 ghost use Rattle.std.specs.Prelude.{◌/◌};
-ghost use Rattle.std.proofs.Common.{nat_eq, rules};
-ghost use Rattle.std.specs.Cmp.{partial_order_from_own_ties};
-ghost use Rattle.std.specs.Cmp.Rules.{comparing};
-ghost use Rattle.std.specs.Ordering.{nat_cmp, on, as_partial_cmp};
 
+use crate::ties::Tagged;
 use dary_heap::heap::DaryHeap;
 use dary_heap::run::{Command, Reply, run};
 use rand::{Rng, SeedableRng};
 use rand_pcg::Pcg32;
 use std::alloc::{AllocError, Global};
-use std::cmp::Ordering;
 use std::process::Abort;
 use std::test::Fail;
-
-/// A number behind the part of it that is compared. Where that is the number itself, no two are equal but
-/// where they are the same.
-#[derive(Drop)]
-struct Coarse(u32, u32);
-
-impl PartialEq for Coarse {
-    ghost eq = { on (λ item. item.0) nat_eq };
-
-    ghost laws = { Prim.search (comparing, rules) };
-
-    fn eq(&self, other: &Self) -> bool {
-        self.0 == other.0
-    }
-}
-
-impl Eq for Coarse {
-    ghost laws = { Prim.search (comparing, rules) };
-}
-
-impl PartialOrd for Coarse {
-    ghost partial_cmp = { as_partial_cmp (on (λ item. item.0) nat_cmp) };
-
-    ghost laws = { partial_order_from_own_ties (Prim.search (comparing, rules)) (Prim.search (comparing, rules)) };
-
-    fn partial_cmp(&self, other: &Self) -> Option<Ordering> {
-        Some(self.cmp(other))
-    }
-}
-
-impl Ord for Coarse {
-    ghost cmp = { on (λ item. item.0) nat_cmp };
-
-    ghost total = { Prim.search (comparing, rules) };
-
-    ghost matches_partial_cmp = { Prim.search (comparing, rules) };
-
-    ghost matches_eq = { Prim.search (comparing, rules) };
-
-    fn cmp(&self, other: &Self) -> Ordering {
-        self.0.cmp(&other.0)
-    }
-}
 
 /// What a command does. A number goes with each, which says with what.
 #[derive(Clone, Copy, Debug)]
@@ -97,35 +50,41 @@ fn passes(number: u32, part: u32) -> bool {
     number & part != 0
 }
 
+/// The item of a number, which is its tag. Its key is the part that is compared.
+fn item(number: u32, ties: bool) -> Tagged {
+    Tagged {
+        key: part(number, ties),
+        tag: number,
+    }
+}
+
 /// The items that an extend or an append brings in.
 fn many(alloc: Global, number: u32) -> Result<Vec<u32>, AllocError> {
     (0..number % 12).map(|by| number ^ by).collect(alloc)
 }
 
-fn coarse_items(alloc: Global, number: u32, ties: bool) -> Result<Vec<Coarse>, AllocError> {
-    let items = many(alloc, number)?.into_iter();
-    items
-        .map(|item| Coarse(part(item, ties), item))
-        .collect(alloc)
+fn many_items(alloc: Global, number: u32, ties: bool) -> Result<Vec<Tagged>, AllocError> {
+    let numbers = many(alloc, number)?.into_iter();
+    numbers.map(|number| item(number, ties)).collect(alloc)
 }
 
 /// The command of this kind and number, with the predicate that it may ask.
-fn command<const D: usize, P: FnMut(&Coarse) -> bool + Drop>(
+fn command<const D: usize, P: FnMut(&Tagged) -> bool + Drop>(
     alloc: Global,
     kind: Kind,
     number: u32,
     ties: bool,
     predicate: P,
-) -> Result<Command<Coarse, D, P>, AllocError> {
+) -> Result<Command<Tagged, D, P>, AllocError> {
     Ok(match kind {
-        Kind::Push => Command::Push(Coarse(part(number, ties), number)),
+        Kind::Push => Command::Push(item(number, ties)),
         Kind::Pop => Command::Pop,
         Kind::PopIf => Command::PopIf(predicate),
         Kind::Ask => Command::Ask(predicate),
         Kind::Len => Command::Len,
         Kind::Retain => Command::Retain(predicate),
-        Kind::Extend => Command::Extend(coarse_items(alloc, number, ties)?),
-        Kind::Append => Command::Append(DaryHeap::from(coarse_items(alloc, number, ties)?)),
+        Kind::Extend => Command::Extend(many_items(alloc, number, ties)?),
+        Kind::Append => Command::Append(DaryHeap::from(many_items(alloc, number, ties)?)),
         Kind::Clear => Command::Clear,
     })
 }
@@ -145,9 +104,9 @@ fn take(bag: &mut Vec<u32>, item: u32) -> bool {
 }
 
 /// Whether a pop of the bag may give this. It is taken out.
-fn pops(bag: &mut Vec<u32>, ties: bool, item: Option<&Coarse>) -> bool {
+fn pops(bag: &mut Vec<u32>, ties: bool, item: Option<&Tagged>) -> bool {
     match item {
-        Some(item) => greatest(bag, ties) == Some(item.0) && take(bag, item.1),
+        Some(item) => greatest(bag, ties) == Some(item.key) && take(bag, item.tag),
         None => bag.is_empty(),
     }
 }
@@ -159,7 +118,7 @@ fn replies<const D: usize>(
     ties: bool,
     kind: Kind,
     number: u32,
-    reply: &Reply<Coarse, D>,
+    reply: &Reply<Tagged, D>,
 ) -> Result<bool, AllocError> {
     match (kind, reply) {
         (Kind::Push, Reply::Pushed) => bag.push(number)?,
@@ -186,8 +145,8 @@ fn replies_as_a_bag<const D: usize>(
     alloc: Global,
     ties: bool,
     drawn: &[(Kind, u32)],
-    given: &[Reply<Coarse, D>],
-    left: &[Coarse],
+    given: &[Reply<Tagged, D>],
+    left: &[Tagged],
 ) -> Result<(), Fail> {
     assert_eq!(rt; given.len(), drawn.len());
     let mut bag = Vec::new(alloc);
@@ -196,7 +155,7 @@ fn replies_as_a_bag<const D: usize>(
         assert!(rt; is_right, "{kind:?} {number}, after which {bag:?}");
     }
     for item in left {
-        assert!(rt; take(&mut bag, item.1));
+        assert!(rt; take(&mut bag, item.tag));
     }
     assert!(rt; bag.is_empty());
     Ok(())
@@ -214,13 +173,13 @@ fn act_as_on_a_bag<const D: usize>(
     let mut commands = Vec::with_capacity(alloc, 30)?;
     for _ in 0..30 {
         let (kind, number) = draw(rng);
-        let predicate = move |item: &Coarse| passes(number, item.0);
+        let predicate = move |item: &Tagged| passes(number, item.key);
         drawn.push((kind, number))?;
         commands
             .push(command::<D, _>(alloc, kind, number, ties, predicate)?)
             .map_err(AllocError::from)?;
     }
-    let mut heap = DaryHeap::<Coarse, D>::new(alloc);
+    let mut heap = DaryHeap::<Tagged, D>::new(alloc);
     let Ok(given) = run(alloc, &mut heap, commands) else {
         return Err(Fail::from("no room for the replies"));
     };

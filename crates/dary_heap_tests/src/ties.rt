@@ -13,9 +13,9 @@ use std::test::Fail;
 
 /// A number with a tag. Only the number is compared.
 #[derive(Drop)]
-struct Tagged {
-    key: u32,
-    tag: char,
+pub struct Tagged {
+    pub key: u32,
+    pub tag: u32,
 }
 
 impl PartialEq for Tagged {
@@ -59,7 +59,7 @@ impl Ord for Tagged {
 /// The heap that is built from these keys and tags.
 fn heap_of<const D: usize>(
     alloc: Global,
-    pairs: &[(u32, char)],
+    pairs: &[(u32, u32)],
 ) -> Result<DaryHeap<Tagged, D>, AllocError> {
     let mut items = Vec::with_capacity(alloc, pairs.len())?;
     for (key, tag) in pairs {
@@ -75,8 +75,8 @@ fn heap_of<const D: usize>(
 fn build<const D: usize>(
     rt: &impl Abort,
     alloc: Global,
-    pairs: &[(u32, char)],
-    after: &[(u32, char)],
+    pairs: &[(u32, u32)],
+    after: &[(u32, u32)],
 ) -> Result<(), Fail> {
     let heap = heap_of::<D>(alloc, pairs)?;
     let mut found = Vec::new(alloc);
@@ -89,22 +89,22 @@ fn build<const D: usize>(
 
 #[test]
 fn of_equal_greatest_siblings_the_last_goes_up(rt: HostRuntime) -> Result<(), Fail> {
-    let three = [(1, 'z'), (5, 'a'), (5, 'b')];
-    let four = [(1, 'z'), (5, 'a'), (5, 'b'), (5, 'c')];
-    let five = [(1, 'z'), (5, 'a'), (5, 'b'), (5, 'c'), (5, 'e')];
-    let after = [(5, 'b'), (5, 'a'), (1, 'z')];
+    let three = [(1, 26), (5, 1), (5, 2)];
+    let four = [(1, 26), (5, 1), (5, 2), (5, 3)];
+    let five = [(1, 26), (5, 1), (5, 2), (5, 3), (5, 5)];
+    let after = [(5, 2), (5, 1), (1, 26)];
     build::<2>(&rt, rt.alloc(), &three, &after)?;
-    let after = [(5, 'c'), (5, 'a'), (5, 'b'), (1, 'z')];
+    let after = [(5, 3), (5, 1), (5, 2), (1, 26)];
     build::<3>(&rt, rt.alloc(), &four, &after)?;
     build::<5>(&rt, rt.alloc(), &four, &after)?;
-    let after = [(5, 'e'), (5, 'a'), (5, 'b'), (5, 'c'), (1, 'z')];
+    let after = [(5, 5), (5, 1), (5, 2), (5, 3), (1, 26)];
     build::<4>(&rt, rt.alloc(), &five, &after)
 }
 
 #[test]
 fn equal_items_come_out_one_by_one(rt: HostRuntime) -> Result<(), Fail> {
-    let mut heap: BinaryHeap<Tagged> = heap_of(rt.alloc(), &[(1, 'a'), (1, 'b'), (1, 'c')])?;
-    for tag in ['a', 'b', 'c'] {
+    let mut heap: BinaryHeap<Tagged> = heap_of(rt.alloc(), &[(1, 1), (1, 2), (1, 3)])?;
+    for tag in [1, 2, 3] {
         assert_eq!(rt; heap.pop().map(|item| (item.key, item.tag)), Some((1, tag)));
     }
     assert!(rt; heap.pop().is_none());
