@@ -16,3 +16,8 @@ pub mod Tail
 pub mod Filtering
 pub mod Extending
 pub mod ServingMany
+pub mod Fronts
+pub mod Cancelling
+pub mod States
+pub mod SameReplies
+pub mod SameStates

@@ -4,29 +4,30 @@ use Rattle.std.specs.declared.cmp.Ordering.{Ordering}
 use Rattle.dary_heap.specs.Bounds.{charge, charges}
 use Rattle.dary_heap.specs.Contents.{Contents}
 use Rattle.dary_heap.specs.Machine as machine
-use Rattle.dary_heap.specs.Machine.{Command, Reply, Step, Run, last_bag}
+use Rattle.dary_heap.specs.Machine.{Command, Reply, Step, Run, last_state}
+use Rattle.dary_heap.specs.State.{IsState}
 use Rattle.dary_heap.specs.Run.{IsServed, PushesServed, Runs, Serves, room, sure_after, sure_at_end}
 
-last_bag-more : {T : Type 0} (old new : List T) (bags : List (List T)) → last_bag old (bags ++ new ∷ []) ≡ new
-last_bag-more old new [] = refl
-last_bag-more old new (bag ∷ bags) = last_bag-more bag new bags
+last_state-more : {T : Type 0} (old new : List T) (states : List (List T)) → last_state old (states ++ new ∷ []) ≡ new
+last_state-more old new [] = refl
+last_state-more old new (state ∷ states) = last_state-more state new states
 
 module _ {T P : Type 0} (cmp : T → T → Ordering) (answers : P → T → Bool → P → Type 0) where
-  Run-more : (old new : List T) (commands : List (Command T P)) (replies : List (Reply T)) (bags : List (List T)) (command : Command T P) (reply : Reply T) → Run cmp answers old commands replies bags → Step cmp answers (last_bag old bags) command reply new → Run cmp answers old (commands ++ command ∷ []) (replies ++ reply ∷ []) (bags ++ new ∷ [])
+  Run-more : (old new : List T) (commands : List (Command T P)) (replies : List (Reply T)) (states : List (List T)) (command : Command T P) (reply : Reply T) → Run cmp answers old commands replies states → Step cmp answers (last_state old states) command reply new → Run cmp answers old (commands ++ command ∷ []) (replies ++ reply ∷ []) (states ++ new ∷ [])
   Run-more old new [] [] [] command reply run step = (step, tt)
-  Run-more old new [] [] (bag ∷ bags) command reply run step = absurd run
-  Run-more old new [] (r ∷ replies) bags command reply run step = absurd run
-  Run-more old new (c ∷ commands) [] bags command reply run step = absurd run
+  Run-more old new [] [] (state ∷ states) command reply run step = absurd run
+  Run-more old new [] (r ∷ replies) states command reply run step = absurd run
+  Run-more old new (c ∷ commands) [] states command reply run step = absurd run
   Run-more old new (c ∷ commands) (r ∷ replies) [] command reply run step = absurd run
-  Run-more old new (c ∷ commands) (r ∷ replies) (bag ∷ bags) command reply run step = (run.0, Run-more bag new commands replies bags command reply run.1 step)
+  Run-more old new (c ∷ commands) (r ∷ replies) (state ∷ states) command reply run step = (run.0, Run-more state new commands replies states command reply run.1 step)
 
-  charges-more : (D : ℕ) (old new : List T) (commands : List (Command T P)) (replies : List (Reply T)) (bags : List (List T)) (command : Command T P) (reply : Reply T) → Run cmp answers old commands replies bags → charges D old (commands ++ command ∷ []) (replies ++ reply ∷ []) (bags ++ new ∷ []) ≡ charges D old commands replies bags + charge D (length (last_bag old bags)) command reply (length new)
+  charges-more : (D : ℕ) (old new : List T) (commands : List (Command T P)) (replies : List (Reply T)) (states : List (List T)) (command : Command T P) (reply : Reply T) → Run cmp answers old commands replies states → charges D old (commands ++ command ∷ []) (replies ++ reply ∷ []) (states ++ new ∷ []) ≡ charges D old commands replies states + charge D (length (last_state old states)) command reply (length new)
   charges-more D old new [] [] [] command reply run = omega arith
-  charges-more D old new [] [] (bag ∷ bags) command reply run = absurd run
-  charges-more D old new [] (r ∷ replies) bags command reply run = absurd run
-  charges-more D old new (c ∷ commands) [] bags command reply run = absurd run
+  charges-more D old new [] [] (state ∷ states) command reply run = absurd run
+  charges-more D old new [] (r ∷ replies) states command reply run = absurd run
+  charges-more D old new (c ∷ commands) [] states command reply run = absurd run
   charges-more D old new (c ∷ commands) (r ∷ replies) [] command reply run = absurd run
-  charges-more D old new (c ∷ commands) (r ∷ replies) (bag ∷ bags) command reply run = omega (arith, charges-more D bag new commands replies bags command reply run.1)
+  charges-more D old new (c ∷ commands) (r ∷ replies) (state ∷ states) command reply run = omega (arith, charges-more D state new commands replies states command reply run.1)
 
 module _ {T P : Type 0} where
   PushesServed-more : (sure : ℕ) (commands : List (Command T P)) (replies : List (Reply T)) (command : Command T P) (reply : Reply T) → length commands ≡ length replies → PushesServed sure commands replies → IsServed (sure_at_end sure commands replies) command reply → PushesServed sure (commands ++ command ∷ []) (replies ++ reply ∷ [])
@@ -57,17 +58,18 @@ module _ {T P : Type 0} where
 
 -- a run of a heap goes on by one command
 module _ {T P : Type 0} {cmp : T → T → Ordering} {answers : P → T → Bool → P → Type 0} {D : ℕ} where
-  pub Runs-begins : (heap : Contents T) → Runs cmp answers D heap [] [] heap
-  Runs-begins heap = record { bags = []; run = tt; ends = refl; charged = record { rises = omega arith; within = omega arith }; served = tt; sure = omega arith }
+  pub Runs-begins : (heap : Contents T) → IsState cmp heap.items → Runs cmp answers D heap [] [] heap
+  Runs-begins heap state = record { states = []; begins = state; run = tt; ends = refl; charged = record { rises = omega arith; within = omega arith }; served = tt; sure = omega arith }
 
   pub Runs-more : (old mid new : Contents T) (commands : List (Command T P)) (replies : List (Reply T)) (command : Command T P) (reply : Reply T) → length commands ≡ length replies → Runs cmp answers D old commands replies mid → Serves cmp answers D mid command reply new → Runs cmp answers D old (commands ++ command ∷ []) (replies ++ reply ∷ []) new
   Runs-more old mid new commands replies command reply long runs serves =
-      let costs = charges-more cmp answers D old.items new.items commands replies runs.bags command reply runs.run in
+      let costs = charges-more cmp answers D old.items new.items commands replies runs.states command reply runs.run in
       let last = ap (λ xs. charge D (length xs) command reply (length new.items)) runs.ends in
       record {
-        bags = runs.bags ++ new.items ∷ [];
-        run = Run-more cmp answers old.items new.items commands replies runs.bags command reply runs.run (rw runs.ends serves.step);
-        ends = last_bag-more old.items new.items runs.bags;
+        states = runs.states ++ new.items ∷ [];
+        begins = runs.begins;
+        run = Run-more cmp answers old.items new.items commands replies runs.states command reply runs.run (rw runs.ends serves.step);
+        ends = last_state-more old.items new.items runs.states;
         charged = record { rises = omega arith; within = omega (arith, costs, last) };
         served = PushesServed-more (room old) commands replies command reply long runs.served (IsServed-fewer _ _ command reply runs.sure serves.served);
         sure = omega (arith, sure_at_end-more (room old) commands replies command reply long, sure_after-fewer _ _ command reply runs.sure, serves.sure);

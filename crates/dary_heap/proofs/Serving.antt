@@ -1,17 +1,19 @@
 -- What one command makes of a heap, from the contract of the call that carries it out.
-use Rattle.std.proofs.Common.{◌≡◌, ℕ, ◌<◌, ◌≤◌, ◌↔◌, Bool, List, [], ◌∷◌, ◌++◌, length, IsPermutation, Contains, refl, subst, arith, Option, Some, None, IsSome, IfSome, IfNone, zero, suc, get_or, inl, inr, true, false, Bor, MatchOption}
-use Rattle.std.specs.Option.{IsSomeAnd}
+use Rattle.std.proofs.Common.{◌≡◌, ℕ, ◌<◌, ◌≤◌, ◌↔◌, Bool, List, [], ◌∷◌, ◌++◌, length, IsPermutation, Contains, refl, subst, arith, Option, Some, None, IsSome, IfSome, IfNone, slice_get, sym, inl, inr, true, false, Bor, MatchOption}
+use Rattle.std.specs.Option.{IsSomeAnd, option_copied}
+use Rattle.std.specs.Cmp.{IsTotalOrder}
 use Rattle.std.specs.Fn.{Mut, Called, CalledAt}
 use Rattle.std.proofs.lemmas.Bool.{cases_lt}
 use Rattle.std.proofs.lemmas.List.Elements.{Contains-append_left, Contains-append_right}
-use Rattle.std.proofs.lemmas.List.Sorted.{IsPermutation-refl, IsPermutation-sym, IsPermutation-to_front, IsPermutation-trans, Contains-permutation, length_permutation}
+use Rattle.std.proofs.lemmas.List.Sorted.{IsPermutation-sym, IsPermutation-to_front, IsPermutation-trans, Contains-permutation, length_permutation}
 use Rattle.std.specs.declared.cmp.Ordering.{Ordering}
-use Rattle.dary_heap.specs.Bag.{IsGreatest}
 use Rattle.dary_heap.specs.Bounds.{RisesWithin, push_bound, pop_bound}
 use Rattle.dary_heap.specs.Contents.{Contents}
 use Rattle.dary_heap.specs.HeapOrder.{IsHeapOrdered}
 use Rattle.dary_heap.specs.Machine.{Push, Pop, Ask, Pushed, PushRefused, Popped, Asked}
 use Rattle.dary_heap.specs.Run.{Serves}
+use Rattle.dary_heap.specs.State.{front, front_with}
+use Rattle.dary_heap.proofs.Fronts.{alone, ordered_state, same_state}
 
 -- a list without items
 pub empty : {X : Type 0} (xs : List X) → length xs ≤ 0 → xs ≡ []
@@ -30,9 +32,9 @@ pub stays : (n bound : ℕ) → RisesWithin n n bound
 stays n bound = record { rises = omega arith; within = omega arith }
 
 module _ {X P : Type 0} {cmp : X → X → Ordering} {answers : P → X → Bool → P → Type 0} {D : ℕ} where
-  pub pushed : (old new : Contents X) (x : X) → IsPermutation (x ∷ old.items) new.items → IsHeapOrdered cmp D new.items → RisesWithin old.comparisons new.comparisons (push_bound D (length old.items)) → old.capacity ≤ new.capacity → Serves cmp answers D old (Push x) Pushed new
-  pushed old new x bag ordered charged more = record {
-    step = bag;
+  pub pushed : (old new : Contents X) (x : X) → IsPermutation (x ∷ old.items) new.items → front new.items ≡ Some (front_with cmp x (front old.items)) → IsHeapOrdered cmp D new.items → RisesWithin old.comparisons new.comparisons (push_bound D (length old.items)) → old.capacity ≤ new.capacity → Serves cmp answers D old (Push x) Pushed new
+  pushed old new x bag first ordered charged more = record {
+    step = (bag, first);
     charged = charged;
     served = λ some. refl;
     sure = omega (arith, length_permutation _ _ bag);
@@ -42,7 +44,7 @@ module _ {X P : Type 0} {cmp : X → X → Ordering} {answers : P → X → Bool
 
   pub push_refused : (old new : Contents X) (x y : X) → new ≡ old → y ≡ x → length old.items ≡ old.capacity → IsHeapOrdered cmp D new.items → Serves cmp answers D old (Push x) (PushRefused y) new
   push_refused old new x y same back full ordered = rw same record {
-    step = (back, IsPermutation-refl _);
+    step = (back, same_state _ _ refl);
     charged = stays _ _;
     served = λ some. absurd (omega arith);
     sure = omega arith;
@@ -50,8 +52,8 @@ module _ {X P : Type 0} {cmp : X → X → Ordering} {answers : P → X → Bool
     among = λ y in'. Contains-append_left old.items (x ∷ []) y in';
   }
 
-  pub pops : (old new : Contents X) (r : Option X) → (IsSome r ↔ (0 < length old.items)) → IfSome r (IsGreatest cmp old.items) → IfSome r (λ m. IsPermutation old.items (m ∷ new.items)) → IsHeapOrdered cmp D new.items → RisesWithin old.comparisons new.comparisons (pop_bound D (length old.items)) → new.capacity ≡ old.capacity → IfNone r (new ≡ old) → Serves cmp answers D old Pop (Popped r) new
-  pops old new None variant greatest bag ordered charged same unchanged =
+  pub pops : IsTotalOrder cmp → (old new : Contents X) (r : Option X) → (IsSome r ↔ (0 < length old.items)) → r ≡ slice_get old.items 0 → IfSome r (λ m. IsPermutation old.items (m ∷ new.items)) → IsHeapOrdered cmp D new.items → RisesWithin old.comparisons new.comparisons (pop_bound D (length old.items)) → new.capacity ≡ old.capacity → IfNone r (new ≡ old) → Serves cmp answers D old Pop (Popped r) new
+  pops total old new None variant first bag ordered charged same unchanged =
       let none : old.items ≡ [] = elim (cases_lt 0 (length old.items)) [ inl some ↦ let given : false ≡ true = variant.1 some in cc | inr few ↦ empty old.items few ] in
       rw unchanged record {
         step = (none, none);
@@ -61,8 +63,8 @@ module _ {X P : Type 0} {cmp : X → X → Ordering} {answers : P → X → Bool
         ordered = subst (λ (it : Contents X). IsHeapOrdered cmp D it.items) unchanged ordered;
         among = λ y in'. Contains-append_left old.items [] y in';
       }
-  pops old new (Some m) variant greatest bag ordered charged same none = record {
-    step = (greatest, bag);
+  pops total old new (Some m) variant first bag ordered charged same none = record {
+    step = (sym first, bag, ordered_state total D new.items ordered);
     charged = charged;
     served = tt;
     sure = omega (arith, length_permutation _ _ bag);
@@ -70,9 +72,9 @@ module _ {X P : Type 0} {cmp : X → X → Ordering} {answers : P → X → Bool
     among = rest old.items new.items m bag;
   }
 
-  pub asked : (heap : Contents X) (p : P) (m : X) (answer : Bool) (after : P) → answers p m answer after → IsGreatest cmp heap.items m → IsHeapOrdered cmp D heap.items → Serves cmp answers D heap (Ask p) (Asked (Some answer)) heap
-  asked heap p m answer after told greatest ordered = record {
-    step = ((m, greatest, (after, told)), IsPermutation-refl _);
+  pub asked : (heap : Contents X) (p : P) (m : X) (answer : Bool) (after : P) → answers p m answer after → front heap.items ≡ Some m → IsHeapOrdered cmp D heap.items → Serves cmp answers D heap (Ask p) (Asked (Some answer)) heap
+  asked heap p m answer after told first ordered = record {
+    step = ((m, first, (after, told)), same_state _ _ refl);
     charged = stays _ _;
     served = tt;
     sure = omega arith;
@@ -82,8 +84,8 @@ module _ {X P : Type 0} {cmp : X → X → Ordering} {answers : P → X → Bool
 
 -- a question that is put to a predicate which is called once at most
 module _ {X P : Type 0} {cmp : X → X → Ordering} {D : ℕ} (calls : Mut P (Bor X × Unit {0}) Bool) (once : (p : P) (a : Bor X × Unit {0}) (answer : Bool) → calls.post p a answer ↔ ((after : P) × Called calls p a answer after)) where
-  pub asks : (heap : Contents X) (p : P) (seen : Option (Bor X)) (answer : Option Bool) → (IsSome seen ↔ (0 < length heap.items)) → IfSome seen (λ item. IsGreatest cmp heap.items item.now) → IsHeapOrdered cmp D heap.items → MatchOption seen (answer ≡ None) (λ item. IsSomeAnd answer (calls.post p (item, tt))) → Serves cmp (CalledAt calls) D heap (Ask p) (Asked answer) heap
-  asks heap p None None variant greatest ordered told =
+  pub asks : (heap : Contents X) (p : P) (seen : Option (Bor X)) (answer : Option Bool) → (IsSome seen ↔ (0 < length heap.items)) → option_copied seen ≡ slice_get heap.items 0 → IsHeapOrdered cmp D heap.items → MatchOption seen (answer ≡ None) (λ item. IsSomeAnd answer (calls.post p (item, tt))) → Serves cmp (CalledAt calls) D heap (Ask p) (Asked answer) heap
+  asks heap p None None variant first ordered told =
       let none : heap.items ≡ [] = elim (cases_lt 0 (length heap.items)) [ inl some ↦ let given : false ≡ true = variant.1 some in cc | inr few ↦ empty heap.items few ] in
       record {
         step = (none, none);
@@ -93,16 +95,12 @@ module _ {X P : Type 0} {cmp : X → X → Ordering} {D : ℕ} (calls : Mut P (B
         ordered = ordered;
         among = λ y in'. Contains-append_left heap.items [] y in';
       }
-  asks heap p None (Some answer) variant greatest ordered told = cc
-  asks heap p (Some item) None variant greatest ordered told = absurd told
-  asks heap p (Some item) (Some answer) variant greatest ordered told =
+  asks heap p None (Some answer) variant first ordered told = cc
+  asks heap p (Some item) None variant first ordered told = absurd told
+  asks heap p (Some item) (Some answer) variant first ordered told =
       let called = (once p (item, tt) answer).0 told in
-      asked heap p item.now answer called.0 (record { shown = item; shows = refl; called = called.1 }) greatest ordered
-
-single : {X : Type 0} (x y : X) (k : ℕ) → k < 1 → get_or (x ∷ []) k y ≡ y → x ≡ y
-single x y zero p e = e
-single x y (suc k) p e = absurd (omega arith)
+      asked heap p item.now answer called.0 (record { shown = item; shows = refl; called = called.1 }) (sym first) ordered
 
 -- the one item of a list is among those that have it
 pub only : {X : Type 0} (items : List X) (x : X) → Contains items x → (y : X) → Contains (x ∷ []) y → Contains items y
-only items x in' y here = subst (Contains items) (single x y here.0 here.1 here.2) in'
+only items x in' y here = subst (Contains items) (alone x y here) in'

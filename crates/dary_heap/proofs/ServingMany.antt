@@ -1,9 +1,9 @@
 -- What a command on many items makes of a heap, from the contract of the call that carries it out.
-use Rattle.std.proofs.Common.{◌≡◌, ℕ, ◌-◌, ◌*◌, ◌≤◌, ◌==◌, ◌↔◌, if◌then◌else◌, max, min, Bool, true, false, List, [], ◌∷◌, ◌++◌, length, IsPermutation, Contains, refl, sym, ap, ◌∙◌, subst, arith, inl, inr, Option, Some, None, IfSome, IfNone, slice_get, length-append, append-nil}
+use Rattle.std.proofs.Common.{◌≡◌, ℕ, suc, ◌-◌, ◌*◌, ◌≤◌, ◌==◌, ◌↔◌, if◌then◌else◌, max, min, Bool, true, false, List, [], ◌∷◌, ◌++◌, length, IsPermutation, Contains, refl, sym, ap, ◌∙◌, subst, arith, inl, inr, Option, Some, None, IfSome, IfNone, slice_get, length-append, append-nil}
 use Rattle.std.proofs.Math.Nat.{mul-le-mul_right}
 use Rattle.std.proofs.lemmas.Bool.{cases_lt}
 use Rattle.std.proofs.lemmas.List.Elements.{Contains-append_left, Contains-append_right, Contains-append_cases}
-use Rattle.std.proofs.lemmas.List.Sorted.{IsPermutation-refl, IsPermutation-sym, Contains-permutation, length_permutation}
+use Rattle.std.proofs.lemmas.List.Sorted.{IsPermutation-sym, Contains-permutation, length_permutation}
 use borrow.Author.Tests.{eqb-true, eqb-false}
 use denote.Ref.{Bor}
 use Rattle.std.specs.Cmp.{IsTotalOrder}
@@ -21,7 +21,9 @@ use Rattle.dary_heap.specs.Filtering.{IsRetained, first_no}
 use Rattle.dary_heap.specs.HeapOrder.{IsHeapOrdered, depth}
 use Rattle.dary_heap.specs.Machine.{PopIf, Retain, Extend, Append, Clear, Popped, Done, ExtendRefused, AppendRefused}
 use Rattle.dary_heap.specs.Run.{Serves}
-use Rattle.dary_heap.proofs.Order.{IsAtMost-none, first_is_greatest, read}
+use Rattle.dary_heap.specs.State.{IsJoined, front}
+use Rattle.dary_heap.proofs.Fronts.{ordered_state, same_state}
+use Rattle.dary_heap.proofs.Order.{IsAtMost-none, read}
 use Rattle.dary_heap.proofs.Serving.{empty, rest, stays}
 
 -- taking in fewer items costs no more
@@ -54,13 +56,31 @@ front_of_both xs ys all left x split in' = elim (Contains-append_cases xs ys x i
   | inr later ↦ Contains-append_right xs (all ++ []) x (subst (λ l. Contains l x) (sym (append-nil all)) (subst (λ l. Contains l x) (sym split) (Contains-append_left ys left x later)))
 ]
 
-module _ {X P : Type 0} {cmp : X → X → Ordering} {answers : P → X → Bool → P → Type 0} {D : ℕ} where
+-- no more is picked than there was
+few_picked : {X : Type 0} (bs : List Bool) (xs : List X) → length (items_where_true bs xs) ≤ length xs
+few_picked [] xs = omega arith
+few_picked (b ∷ bs) [] = omega arith
+few_picked (true ∷ bs) (x ∷ xs) = omega (arith, few_picked bs xs)
+few_picked (false ∷ bs) (x ∷ xs) = omega (arith, few_picked bs xs)
+
+-- where all are picked, each answer was yes
+none_removed : {X : Type 0} (bs : List Bool) (xs : List X) → length bs ≡ length xs → items_where_true bs xs ≡ xs → first_no bs ≡ length bs
+none_removed [] xs all same = refl
+none_removed (b ∷ bs) [] all same = absurd (omega arith)
+none_removed (true ∷ bs) (x ∷ xs) all same = let rest : items_where_true bs xs ≡ xs = (cc) in ap suc (none_removed bs xs (omega arith) rest)
+none_removed (false ∷ bs) (x ∷ xs) all same = absurd (let whole : length (items_where_true bs xs) ≡ length (x ∷ xs) = ap length same in omega (arith, whole, few_picked bs xs))
+
+module _ {X : Type 0} {cmp : X → X → Ordering} {D : ℕ} (total : IsTotalOrder cmp) where
+  joined : (old new : Contents X) (xs : List X) → IsExtended cmp D old xs new → IsJoined cmp old.items xs new.items
+  joined old new xs h = record { bag = h.bag; state = ordered_state total D new.items h.ordered; first = λ none. ap front (h.unchanged none) }
+
+module _ {X P : Type 0} {cmp : X → X → Ordering} {answers : P → X → Bool → P → Type 0} {D : ℕ} (total : IsTotalOrder cmp) where
   pub retained : (old new : Contents X) (p : P) → IsRetained answers D p old new → IsHeapOrdered cmp D new.items → Serves cmp answers D old (Retain p) Done new
   retained old new p h ordered =
       let kept = items_where_true h.answers old.items in
       let n = length new.items in
       record {
-        step = (old.items, kept, IsPermutation-refl _, (h.answers, h.after, h.all, h.asked, refl), h.bag);
+        step = (old.items, kept, same_state _ _ refl, (h.answers, h.after, h.all, h.asked, refl), h.bag, ordered_state total D new.items ordered, λ all_kept. ap (λ (it : Contents X). front it.items) (h.unchanged (none_removed h.answers old.items h.all all_kept)));
         charged = record { rises = h.counted.rises; within = omega (arith, h.counted.within, mend_bound-fewer D n (n - first_no h.answers) n (omega arith)) };
         served = tt;
         sure = omega arith;
@@ -70,7 +90,7 @@ module _ {X P : Type 0} {cmp : X → X → Ordering} {answers : P → X → Bool
 
   pub extended : (old new : Contents X) (xs : List X) → IsExtended cmp D old xs new → Serves cmp answers D old (Extend xs) Done new
   extended old new xs h = record {
-    step = h.bag;
+    step = joined total old new xs h;
     charged = h.counted;
     served = tt;
     sure = omega arith;
@@ -90,7 +110,7 @@ module _ {X P : Type 0} {cmp : X → X → Ordering} {answers : P → X → Bool
 
   pub extend_refused : (old new : Contents X) (all xs : List X) (x : X) (left : List X) → all ≡ xs ++ (x ∷ left) → IsExtended cmp D old xs new → Serves cmp answers D old (Extend all) ExtendRefused new
   extend_refused old new all xs x left split h = record {
-    step = (xs, x ∷ left, split, omega arith, h.bag);
+    step = (xs, x ∷ left, split, omega arith, joined total old new xs h);
     charged = h.counted;
     served = tt;
     sure = omega arith;
@@ -98,11 +118,11 @@ module _ {X P : Type 0} {cmp : X → X → Ordering} {answers : P → X → Bool
     among = λ y in'. front_of_both old.items xs all (x ∷ left) y split (Contains-permutation new.items (old.items ++ xs) y (IsPermutation-sym (old.items ++ xs) new.items h.bag) in');
   }
 
-  pub appended : (old new : Contents X) (other : List X) → IsSameBag (old.items ++ other) new.items → IsHeapOrdered cmp D new.items → RisesWithin old.comparisons new.comparisons (mend_bound D (length new.items) (min (length old.items) (length other))) → Serves cmp answers D old (Append other) Done new
-  appended old new other bag ordered counted =
+  pub appended : (old new : Contents X) (other : List X) → IsSameBag (old.items ++ other) new.items → (other ≡ [] → new.items ≡ old.items) → IsHeapOrdered cmp D new.items → RisesWithin old.comparisons new.comparisons (mend_bound D (length new.items) (min (length old.items) (length other))) → Serves cmp answers D old (Append other) Done new
+  appended old new other bag same_items ordered counted =
       let more : length other ≡ length new.items - length old.items = omega (arith, length_permutation _ _ bag, length-append old.items other) in
       record {
-        step = bag;
+        step = record { bag = bag; state = ordered_state total D new.items ordered; first = λ none. ap front (same_items none) };
         charged = subst (λ k. RisesWithin old.comparisons new.comparisons (mend_bound D (length new.items) (min (length old.items) k))) more counted;
         served = tt;
         sure = omega arith;
@@ -112,7 +132,7 @@ module _ {X P : Type 0} {cmp : X → X → Ordering} {answers : P → X → Bool
 
   pub append_refused : (old new : Contents X) (other back : List X) → new ≡ old → back ≡ other → IsHeapOrdered cmp D new.items → Serves cmp answers D old (Append other) (AppendRefused back) new
   append_refused old new other back same returned ordered = rw same record {
-    step = (subst (IsSameBag other) (sym returned) (IsPermutation-refl other), IsPermutation-refl _);
+    step = (same_state other back returned, same_state _ _ refl);
     charged = stays _ _;
     served = tt;
     sure = omega arith;
@@ -134,6 +154,10 @@ module _ {X P : Type 0} (calls : Mut P (Bor X × Unit {0}) Bool) (once : (p : P)
   told : (p : P) (item : X) (answer : Bool) → Told p item answer → (after : P) × CalledAt calls p item answer after
   told p item answer h = let called = (once p (h.0, tt) answer).0 h.1 in (called.0, record { shown = h.0; shows = h.2; called = called.1 })
 
+  given : (m item : X) (answer : Bool) → Some m ≡ (if answer then Some item else None) → Some m ≡ Some item
+  given m item true e = e
+  given m item false e = cc
+
   told_yes : (p : P) (m item : X) (answer : Bool) → Told p item answer → Some m ≡ (if answer then Some item else None) → (after : P) × CalledAt calls p m true after
   told_yes p m item true h e = let same : item ≡ m = (cc) in subst (λ x. (after : P) × CalledAt calls p x true after) same (told p item true h)
   told_yes p m item false h e = cc
@@ -150,7 +174,7 @@ module _ {X P : Type 0} (calls : Mut P (Bor X × Unit {0}) Bool) (once : (p : P)
           | inl some ↦
               let first = read old.items 0 some in
               let answer = asked first.0 first.1 in
-              inr ((first.0, first_is_greatest total D old.items still first.0 first.1, told_no p first.0 answer.0 answer.1 answer.2), IsPermutation-refl _)
+              inr ((first.0, first.1, told_no p first.0 answer.0 answer.1 answer.2), same_state _ _ refl)
           | inr few ↦ inl (empty old.items few, empty old.items few)
         ];
         charged = stays _ _;
@@ -159,11 +183,11 @@ module _ {X P : Type 0} (calls : Mut P (Bor X × Unit {0}) Bool) (once : (p : P)
         ordered = still;
         among = λ y in'. Contains-append_left old.items [] y in';
       }
-  pops_where total old new p (Some m) asked greatest bag ordered charged same none =
+  pops_where {D = D} total old new p (Some m) asked greatest bag ordered charged same none =
       let first = read old.items 0 (omega (arith, greatest.occurs.1)) in
       let answer = asked first.0 first.1 in
       record {
-        step = (greatest, told_yes p m first.0 answer.0 answer.1 answer.2, bag);
+        step = ((first.1 ∙ sym (given m first.0 answer.0 answer.2), bag, ordered_state total D new.items ordered), told_yes p m first.0 answer.0 answer.1 answer.2);
         charged = charged;
         served = tt;
         sure = omega (arith, length_permutation _ _ bag);

@@ -50,7 +50,7 @@ charge D n (DrainSorted k) (Taken taken) m = pops_bound D n
 charge D n (Loan acts end) (Loaned told) m = (refreshes acts + 1) * sink_bound D n
 charge D n command reply m = 0
 
--- the sum of the charges of a run's steps, from the bag old on, where these are the bags that they leave
+-- the sum of the charges of a run's steps, from the state old on, where these are the states that they leave
 abbrev pub charges : {T P : Type 0} → ℕ → List T → List (Command T P) → List (Reply T) → List (List T) → ℕ
 charges D old (command ∷ commands) (reply ∷ replies) (new ∷ later) = charge D (length old) command reply (length new) + charges D new commands replies later
-charges D old commands replies bags = 0
+charges D old commands replies states = 0

@@ -1,5 +1,5 @@
 -- What items that come in one after another make of a heap.
-use Rattle.std.specs.Prelude.{ℕ, ◌+◌, ◌-◌, ◌≤◌, ◌++◌, List, [], ◌∷◌, length, Option}
+use Rattle.std.specs.Prelude.{◌≡◌, ℕ, ◌+◌, ◌-◌, ◌≤◌, ◌++◌, List, [], ◌∷◌, length, Option}
 use Rattle.std.specs.Iterator.{Yields}
 use Rattle.std.specs.declared.cmp.Ordering.{Ordering}
 use Rattle.dary_heap.specs.Bag.{IsSameBag}
@@ -17,6 +17,8 @@ pub record IsRefusedAfter {S A : Type 0} (steps : S → Option A → S → Type 
 -- new has the items of old and xs
 pub record IsExtended {T : Type 0} (cmp : T → T → Ordering) (D : ℕ) (old : Contents T) (xs : List T) (new : Contents T) : Type 0 where
   pub bag : IsSameBag (old.items ++ xs) new.items
+  -- where none came in they stay as they were
+  pub unchanged : xs ≡ [] → new.items ≡ old.items
   pub ordered : IsHeapOrdered cmp D new.items
   pub counted : RisesWithin old.comparisons new.comparisons (mend_bound D (length new.items) (length new.items - length old.items))
   pub capacity : old.capacity ≤ new.capacity

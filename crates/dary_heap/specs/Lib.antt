@@ -11,4 +11,6 @@ pub mod Machine
 pub mod Reading
 pub mod Run
 pub mod Sifting
+pub mod State
 pub mod Tail
+pub mod TwoArities

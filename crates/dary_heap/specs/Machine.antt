@@ -1,9 +1,10 @@
--- The bag machine: what each command may reply, and the bag that it leaves. It knows no arity, no vector and no memory:
+-- The bag machine: what each command may reply, and the state that it leaves. A state is a bag with its front. The machine knows no arity, no vector and no memory:
 -- a reply that stands for want of memory is a step wherever the other conditions on it hold.
 use Rattle.std.specs.Prelude.{◌≡◌, ◌≢◌, ◌⊎◌, ℕ, zero, suc, ◌<◌, Bool, true, false, List, [], ◌∷◌, ◌++◌, length, take, Option, Some, None}
 use Rattle.std.specs.List.Retain.{IsFiltered}
 use Rattle.std.specs.declared.cmp.Ordering.{Ordering}
 use Rattle.dary_heap.specs.Bag.{IsSameBag, IsGreatest, HasGreater}
+use Rattle.dary_heap.specs.State.{IsState, IsSameState, IsJoined, front, front_with}
 
 -- what may happen to a loan, how it ends, and what each act sees
 pub data Act (T : Type 0) : Type 0 where
@@ -18,7 +19,7 @@ pub data Seen (T : Type 0) : Type 0 where
   Old : T → Seen T
   Changed : Bool → Seen T
 
--- a heap in a command or a reply is the list of its items
+-- a heap in a command or a reply is the list of its items, read as a state
 pub data Command (T P : Type 0) : Type 0 where
   Push : T → Command T P
   Pop : Command T P
@@ -50,15 +51,19 @@ pub data Reply (T : Type 0) : Type 0 where
 
 -- `answers p x a q`: the predicate p, asked about x, may answer a and be q from then on
 module _ {T P : Type 0} (cmp : T → T → Ordering) (answers : P → T → Bool → P → Type 0) where
-  -- p, asked once about some greatest value of the bag, may give this answer
+  -- p, asked once about the front, may give this answer
   abbrev pub MayAnswer : List T → P → Bool → Type 0
-  MayAnswer bag p answer = (m : T) × IsGreatest cmp bag m × ((after : P) × answers p m answer after)
+  MayAnswer state p answer = (f : T) × (front state ≡ Some f) × ((after : P) × answers p f answer after)
+
+  -- m is the front of old, and new is the state without it: its bag is the rest, its front is any
+  abbrev pub Pops : List T → T → List T → Type 0
+  Pops old m new = (front old ≡ Some m) × IsSameBag old (m ∷ new) × IsState cmp new
 
   -- pops give these items one after another, until there are k of them or the bag is empty
   abbrev pub PopsInTurn : List T → ℕ → List T → Type 0
-  PopsInTurn bag zero taken = taken ≡ []
-  PopsInTurn bag (suc k) [] = bag ≡ []
-  PopsInTurn bag (suc k) (m ∷ taken) = IsGreatest cmp bag m × ((rest : List T) × IsSameBag bag (m ∷ rest) × PopsInTurn rest k taken)
+  PopsInTurn old zero taken = taken ≡ []
+  PopsInTurn old (suc k) [] = old ≡ []
+  PopsInTurn old (suc k) (m ∷ taken) = (new : List T) × Pops old m new × PopsInTurn new k taken
 
   -- the acts on a loan of held, where rest is the rest of the bag: what they see, what is held at last, and the rest then
   abbrev pub Acts : T → List T → List (Act T) → List (Seen T) → T → List T → Type 0
@@ -71,53 +76,55 @@ module _ {T P : Type 0} (cmp : T → T → Ordering) (answers : P → T → Bool
   Acts held rest (Refresh ∷ acts) (Changed false ∷ seen) last left = (HasGreater cmp rest held → ⊥) × Acts held rest acts seen last left
   Acts held rest acts seen last left = ⊥
 
-  -- how a loan ends that holds last: what is popped, and the bag after it
+  -- how a loan ends that holds last: what is popped, and the state after it. A value that is put back is its front where none of the rest is strictly greater, and else any
   abbrev pub Ends : T → List T → End → Option T → List T → Type 0
-  Ends last left PutBack None new = IsSameBag (last ∷ left) new
-  Ends last left TakeOut (Some v) new = (v ≡ last) × IsSameBag left new
+  Ends last left PutBack None new = IsSameBag (last ∷ left) new × IsState cmp new × ((HasGreater cmp left last → ⊥) → front new ≡ Some last)
+  Ends last left TakeOut (Some v) new = (v ≡ last) × IsSameBag left new × IsState cmp new
   Ends last left end popped new = ⊥
 
-  -- from the bag old, the machine may give this reply to the command and leave the bag new
+  -- from the state old, the machine may give this reply to the command and leave the state new
   abbrev pub Step : List T → Command T P → Reply T → List T → Type 0
-  Step old (Push x) Pushed new = IsSameBag (x ∷ old) new
-  Step old (Push x) (PushRefused y) new = (y ≡ x) × IsSameBag old new
+  Step old (Push x) Pushed new = IsSameBag (x ∷ old) new × (front new ≡ Some (front_with cmp x (front old)))
+  Step old (Push x) (PushRefused y) new = (y ≡ x) × IsSameState old new
   Step old Pop (Popped None) new = (old ≡ []) × (new ≡ [])
-  Step old Pop (Popped (Some m)) new = IsGreatest cmp old m × IsSameBag old (m ∷ new)
+  Step old Pop (Popped (Some m)) new = Pops old m new
   Step old (Ask p) (Asked None) new = (old ≡ []) × (new ≡ [])
-  Step old (Ask p) (Asked (Some answer)) new = MayAnswer old p answer × IsSameBag old new
-  Step old (PopIf p) (Popped None) new = ((old ≡ []) × (new ≡ [])) ⊎ (MayAnswer old p false × IsSameBag old new)
-  Step old (PopIf p) (Popped (Some m)) new = IsGreatest cmp old m × ((after : P) × answers p m true after) × IsSameBag old (m ∷ new)
-  Step old Len (Size n) new = (n ≡ length old) × IsSameBag old new
-  Step old (Reserve n) Done new = IsSameBag old new
-  Step old (Reserve n) Refused new = IsSameBag old new
-  Step old (Shrink n) Done new = IsSameBag old new
-  Step old (Shrink n) Refused new = IsSameBag old new
-  Step old (Extend xs) Done new = IsSameBag (old ++ xs) new
-  Step old (Extend xs) ExtendRefused new = (taken : List T) × (left : List T) × (xs ≡ taken ++ left) × (0 < length left) × IsSameBag (old ++ taken) new
-  Step old (Append other) Done new = IsSameBag (old ++ other) new
-  Step old (Append other) (AppendRefused back) new = IsSameBag other back × IsSameBag old new
-  -- the predicate is asked about the items of some listing, in its order, once each and about nothing else
-  Step old (Retain p) Done new = (listing : List T) × (kept : List T) × IsSameBag old listing × IsFiltered answers p listing kept × IsSameBag kept new
+  Step old (Ask p) (Asked (Some answer)) new = MayAnswer old p answer × IsSameState old new
+  Step old (PopIf p) (Popped None) new = ((old ≡ []) × (new ≡ [])) ⊎ (MayAnswer old p false × IsSameState old new)
+  Step old (PopIf p) (Popped (Some m)) new = Pops old m new × ((after : P) × answers p m true after)
+  Step old Len (Size n) new = (n ≡ length old) × IsSameState old new
+  Step old (Reserve n) Done new = IsSameState old new
+  Step old (Reserve n) Refused new = IsSameState old new
+  Step old (Shrink n) Done new = IsSameState old new
+  Step old (Shrink n) Refused new = IsSameState old new
+  Step old (Extend xs) Done new = IsJoined cmp old xs new
+  Step old (Extend xs) ExtendRefused new = (taken : List T) × (left : List T) × (xs ≡ taken ++ left) × (0 < length left) × IsJoined cmp old taken new
+  Step old (Append other) Done new = IsJoined cmp old other new
+  Step old (Append other) (AppendRefused back) new = IsSameState other back × IsSameState old new
+  -- the predicate is asked about the items of some listing that begins with the front, in its order, once each and about nothing else. Where it removes none the front stays
+  Step old (Retain p) Done new =
+      (listing : List T) × (kept : List T)
+      × IsSameState old listing × IsFiltered answers p listing kept × IsSameBag kept new × IsState cmp new × (kept ≡ listing → front new ≡ front old)
   Step old Clear Done new = new ≡ []
-  Step old (Drain k) (Taken taken) new = ((listing : List T) × IsSameBag old listing × (taken ≡ take k listing)) × (new ≡ [])
-  Step old (Drain k) Refused new = (old ≢ []) × (k ≢ 0) × IsSameBag old new
+  Step old (Drain k) (Taken taken) new = ((listing : List T) × IsSameState old listing × (taken ≡ take k listing)) × (new ≡ [])
+  Step old (Drain k) Refused new = (old ≢ []) × (k ≢ 0) × IsSameState old new
   Step old (DrainSorted k) (Taken taken) new = PopsInTurn old k taken × (new ≡ [])
-  Step old (DrainSorted k) Refused new = (old ≢ []) × (k ≢ 0) × IsSameBag old new
+  Step old (DrainSorted k) Refused new = (old ≢ []) × (k ≢ 0) × IsSameState old new
   Step old (Loan acts end) (Loaned None) new = (old ≡ []) × (new ≡ [])
   Step old (Loan acts end) (Loaned (Some told)) new =
       (m : T) × (rest : List T) × (last : T) × (left : List T)
-      × IsGreatest cmp old m × IsSameBag old (m ∷ rest) × Acts m rest acts told.0 last left × Ends last left end told.1 new
-  Step old (Loan acts end) Refused new = (old ≢ []) × (acts ≢ []) × IsSameBag old new
+      × (front old ≡ Some m) × IsSameBag old (m ∷ rest) × Acts m rest acts told.0 last left × Ends last left end told.1 new
+  Step old (Loan acts end) Refused new = (old ≢ []) × (acts ≢ []) × IsSameState old new
   -- no other reply is given
   Step old command reply new = ⊥
 
-  -- from the bag old, the machine may give these replies to these commands, one step after another, and these are the bags that they leave
+  -- from the state old, the machine may give these replies to these commands, one step after another, and these are the states that they leave
   abbrev pub Run : List T → List (Command T P) → List (Reply T) → List (List T) → Type 0
   Run old [] [] [] = Unit {0}
   Run old (command ∷ commands) (reply ∷ replies) (new ∷ later) = Step old command reply new × Run new commands replies later
-  Run old commands replies bags = ⊥
+  Run old commands replies states = ⊥
 
--- the bag at the end of a run: the last that was left, or the one at its start where there is none
-abbrev pub last_bag : {T : Type 0} → List T → List (List T) → List T
-last_bag old [] = old
-last_bag old (new ∷ later) = last_bag new later
+-- the state at the end of a run: the last that was left, or the one at its start where there is none
+abbrev pub last_state : {T : Type 0} → List T → List (List T) → List T
+last_state old [] = old
+last_state old (new ∷ later) = last_state new later

@@ -5,7 +5,8 @@ use Rattle.dary_heap.specs.Asking.{items_in}
 use Rattle.dary_heap.specs.Bounds.{RisesWithin, charge, charges}
 use Rattle.dary_heap.specs.Contents.{Contents}
 use Rattle.dary_heap.specs.HeapOrder.{IsHeapOrdered}
-use Rattle.dary_heap.specs.Machine.{Command, Reply, Push, Pop, PopIf, Ask, Len, Reserve, Pushed, Done, Step, Run, last_bag}
+use Rattle.dary_heap.specs.Machine.{Command, Reply, Push, Pop, PopIf, Ask, Len, Reserve, Pushed, Done, Step, Run, last_state}
+use Rattle.dary_heap.specs.State.{IsState}
 
 -- how many pushes there is room for
 abbrev pub room : {T : Type 0} → Contents T → ℕ
@@ -41,13 +42,14 @@ PushesServed sure (command ∷ commands) (reply ∷ replies) = IsServed sure com
 module _ {T P : Type 0} (cmp : T → T → Ordering) (answers : P → T → Bool → P → Type 0) (D : ℕ) where
   -- a heap gave these replies to these commands
   pub record Runs (old : Contents T) (commands : List (Command T P)) (replies : List (Reply T)) (new : Contents T) : Type 0 where
-    -- the bag after each step
-    pub bags : List (List T)
-    -- the machine may give these replies and leave these bags
-    pub run : Run cmp answers old.items commands replies bags
-    pub ends : last_bag old.items bags ≡ new.items
-    -- it made no more comparisons than the charges of the steps, taken over the same bags
-    pub charged : RisesWithin old.comparisons new.comparisons (charges D old.items commands replies bags)
+    -- the state after each step
+    pub states : List (List T)
+    -- the items at the start are a state, and from it the machine may give these replies and leave these states
+    pub begins : IsState cmp old.items
+    pub run : Run cmp answers old.items commands replies states
+    pub ends : last_state old.items states ≡ new.items
+    -- it made no more comparisons than the charges of the steps, taken over the same states
+    pub charged : RisesWithin old.comparisons new.comparisons (charges D old.items commands replies states)
     -- no push that there is room for is refused
     pub served : PushesServed (room old) commands replies
     -- for as many as are sure afterwards there is room

@@ -12,6 +12,7 @@ ghost use Rattle.dary_heap.specs.Bag.{IsSameBag, IsGreatest};
 ghost use Rattle.dary_heap.specs.Bounds.{RisesWithin, push_bound, pop_bound};
 ghost use Rattle.dary_heap.specs.Contents.{Contents};
 ghost use Rattle.dary_heap.specs.HeapOrder.{IsHeapOrdered};
+ghost use Rattle.dary_heap.specs.State.{front, front_with};
 
 use crate::sift::{ByOrd, pop_with, push_with};
 use std::alloc::Global;
@@ -133,6 +134,7 @@ impl<T: Ord, const D: usize> DaryHeap<T, D> {
     /// comes back and the heap is as it was.
     pub fn push(&mut self, item: T) -> Result<(), T>
         ensures bag { OnOk result (IsSameBag (item ∷ self.old.items) self.new.items) }
+        ensures first { OnOk result (front self.new.items ≡ Some (front_with T.cmp item (front self.old.items))) }
         ensures counted { OnOk result (RisesWithin self.old.comparisons self.new.comparisons (push_bound D (length self.old.items))) }
         ensures len { length self.new.items ≡ length self.old.items + (if is_ok result then 1 else 0) }
         ensures ordered { IsHeapOrdered T.cmp D self.new.items }

@@ -1,8 +1,8 @@
 //! Lists of commands, and the replies to them.
 //!
 //! [`run`] carries a list of commands out on a heap. Its contract says that the replies and the items
-//! are a run of the bag machine of `specs/Machine.antt`, which knows no tree and no memory: a pop gives
-//! any item that no other exceeds.
+//! are a run of the bag machine of `specs/Machine.antt`, which knows no tree and no memory. It has a bag
+//! and its front, an item that no other exceeds: a question is about the front, and a pop gives it.
 ghost use Rattle.std.specs.Prelude.{◌≡◌, ◌++◌, ◌∷◌, [], length, All, IfOk, IfErr, IsOk};
 ghost use Rattle.std.specs.Fn.{CalledAt};
 ghost use Rattle.dary_heap.specs.Asking.{IsCallableOn, items_in, predicates_in};
@@ -10,6 +10,7 @@ ghost use Rattle.dary_heap.specs.HeapOrder.{IsHeapOrdered};
 ghost use Rattle.dary_heap.specs.Machine as machine;
 ghost use Rattle.dary_heap.specs.Reading as read;
 ghost use Rattle.dary_heap.specs.Run.{Runs, Serves};
+ghost use Rattle.dary_heap.specs.TwoArities.{SameRepliesAtTwoArities};
 
 use crate::heap::DaryHeap;
 use std::alloc::Global;
@@ -98,6 +99,16 @@ pub fn run<T: Ord + Drop, const D: usize, P: FnMut(&T) -> bool>(
     }
     Ok(replies)
 }
+
+/// The law on two arities. It does nothing when it runs.
+///
+/// Take any two runs of the bag machine from states with the same bag, by the same commands, none of
+/// which holds a predicate or a heap or drains in slice order. Where no two different values of the bag
+/// and the commands compare equal and nothing is refused, the replies are equal, and so are the bags at
+/// the end. The machine knows no arity, so this holds of what [`run`] gives at any two.
+pub fn two_arities<T: Ord, P: FnMut(&T) -> bool>()
+    ensures { SameRepliesAtTwoArities T.cmp (CalledAt P.FnMut) }
+{}
 
 /// Carries one command out.
 fn serve<T: Ord + Drop, const D: usize, P: FnMut(&T) -> bool>(

@@ -37,6 +37,7 @@ impl<T: Ord, const D: usize> DaryHeap<T, D> {
         ensures counted { OnOk result (RisesWithin self.old.comparisons self.new.comparisons (mend_bound D (length self.new.items) (min (length self.old.items) (length other.old.items)))) }
         ensures uncounted { other.new.comparisons ≡ other.old.comparisons }
         ensures capacity { OnOk result (receiving_capacity self.old other.old ≤ self.new.capacity) }
+        ensures same_items { OnOk result (other.old.items ≡ [] → self.new.items ≡ self.old.items) }
         ensures other_capacity { OnOk result (other.new.capacity ≡ moving_capacity self.old other.old) }
 
         // It is refused only where the longer heap lacks room, and then nothing has changed.
@@ -61,6 +62,7 @@ fn take_in<T: Ord, const D: usize>(items: &mut Vec<T>, others: &mut Vec<T>, judg
     requires { vec_len items.old + vec_len others.old ≤ vec_capacity items.old }
     ensures bag { IsSameBag (items.old.items ++ others.old.items) items.new.items }
     ensures emptied { others.new.items ≡ [] }
+    ensures same_items { others.old.items ≡ [] → items.new.items ≡ items.old.items }
     ensures ordered { IsHeapOrdered T.cmp D items.old.items → IsHeapOrdered T.cmp D items.new.items }
     ensures counted { RisesWithin judge.old judge.new (mend_bound D (vec_len items.new) (vec_len others.old)) }
     ensures capacity { vec_capacity items.old ≤ vec_capacity items.new }

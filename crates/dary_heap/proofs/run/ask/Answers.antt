@@ -10,4 +10,4 @@ map-requires g c = λ item is.
 pub returns : goal.returns
 returns g c =
     let e = c.peek.ensures in
-    asks g.P.FnMut g.met.P.FnMut.1.post_iff c.args.heap.now c.args.predicate c.peek.result c.map.result e.variant e.greatest e.ordered c.map.ensures.cases
+    asks g.P.FnMut g.met.P.FnMut.1.post_iff c.args.heap.now c.args.predicate c.peek.result c.map.result e.variant e.first e.ordered c.map.ensures.cases

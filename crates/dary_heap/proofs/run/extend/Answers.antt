@@ -8,7 +8,7 @@ use Rattle.dary_heap.proofs.run.extend.Goals as goal
 pub returns-in-Ok : goal.returns-in-Ok
 returns-in-Ok g c =
     let k = c.in-Ok.ensures.ran in
-    extended c.args.heap.now c.extend.new.self c.args.items.items (subst (λ xs. IsExtended g.T.Ord.cmp g.row.D c.args.heap.now xs c.extend.new.self) (All-taken k.0 k.1 k.4 ∙ k.2.0) k.3)
+    extended g.met.T.Ord.total c.args.heap.now c.extend.new.self c.args.items.items (subst (λ xs. IsExtended g.T.Ord.cmp g.row.D c.args.heap.now xs c.extend.new.self) (All-taken k.0 k.1 k.4 ∙ k.2.0) k.3)
 
 pub returns-in-Err : goal.returns-in-Err
 returns-in-Err g c =
@@ -16,4 +16,4 @@ returns-in-Err g c =
     let refused = k.3 in
     let left = into_iter_items refused.left in
     let split = sym k.2.0 ∙ taken_front k.0 (k.1 ++ refused.refused ∷ []) refused.left refused.gave ∙ append_assoc k.1 (refused.refused ∷ []) left in
-    extend_refused c.args.heap.now c.extend.new.self c.args.items.items k.1 refused.refused left split k.4
+    extend_refused g.met.T.Ord.total c.args.heap.now c.extend.new.self c.args.items.items k.1 refused.refused left split k.4

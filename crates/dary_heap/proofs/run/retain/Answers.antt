@@ -2,4 +2,4 @@ use Rattle.dary_heap.proofs.ServingMany.{retained}
 use Rattle.dary_heap.proofs.run.retain.Goals as goal
 
 pub returns : goal.returns
-returns g c = retained _ _ _ c.retain.ensures.retained c.retain.ensures.ordered
+returns g c = retained g.met.T.Ord.total _ _ _ c.retain.ensures.retained c.retain.ensures.ordered

@@ -5,6 +5,7 @@ use Rattle.std.specs.Vec.Iter.{into_iter_items}
 use Rattle.dary_heap.specs.Asking.{IsCallableOn, items_in, predicates_in}
 use Rattle.dary_heap.specs.Reading as read
 use Rattle.dary_heap.proofs.Asking.{callable_one, items_of_one}
+use Rattle.dary_heap.proofs.Fronts.{ordered_state}
 use Rattle.dary_heap.proofs.Runs.{Runs-begins, Runs-more}
 use Rattle.dary_heap.proofs.Serving.{empty}
 use Rattle.dary_heap.proofs.run.run.Goals as goal
@@ -21,7 +22,7 @@ loop-command-init g c =
       left = omega (arith, ap length gives.0, gives.1);
       told = ap length c.in-Ok.ensures.items;
       space = omega (arith, ap length c.in-Ok.ensures.items, gives.1, c.len.ensures, c.in-Ok.ensures.capacity);
-      runs = rw c.in-Ok.ensures.items (Runs-begins c.args.heap.now);
+      runs = rw c.in-Ok.ensures.items (Runs-begins c.args.heap.now (ordered_state g.met.T.Ord.total g.row.D c.args.heap.now.items c.as_slice.ensures.ordered));
       among = λ x in'. Contains-append_left c.args.heap.now.items _ x in';
       ordered = c.as_slice.ensures.ordered;
     }

@@ -1,4 +1,4 @@
-use Rattle.std.proofs.Common.{◌++◌}
+use Rattle.std.proofs.Common.{◌++◌, length, ap, arith}
 use Rattle.std.proofs.lemmas.List.Sorted.{IsPermutation-append_comm, IsPermutation-trans}
 use Rattle.dary_heap.proofs.heap.DaryHeap.append.Goals as goal
 use Rattle.dary_heap.proofs.heap.DaryHeap.append.Goals.{then-len+in_ok-reserve, else-len+in_ok-reserve-2}
@@ -14,4 +14,15 @@ returns-clause-bag g c =
       | else-len+in_ok-reserve-2 w ↦
           let placed = rw (w.self-inside-is, w.other-inside-is) at c.take_in.ensures.bag in
           rw (← c.self.view_is, ← c.other.view_is) (rw w.reserve-else-len.ensures.items at placed)
+    ]
+
+pub returns-clause-same_items : goal.returns-clause-same_items
+returns-clause-same_items g c = λ none.
+    let empty = rw (← c.other.view_is) at none in
+    elim c.if-len.branch [
+      | then-len+in_ok-reserve w ↦ absurd (omega (arith, ap length empty))
+      | else-len+in_ok-reserve-2 w ↦
+          let placed = rw (w.self-inside-is, w.other-inside-is) at c.take_in.ensures.same_items in
+          let kept = rw w.reserve-else-len.ensures.items at placed in
+          rw (← c.self.view_is) (kept empty)
     ]

@@ -25,7 +25,7 @@ ordered g c =
 
 -- what came in is taken into the heap
 taken : (g : Over) (c : After-mend_with g) → IsExtended g.T.Ord.cmp g.row.D (record { items = c.heap.inside.items.items; capacity = vec_capacity c.heap.inside.items; comparisons = c.heap.inside.judge }) (map g.X.Element.value c.push_all-outcome.ensures.came.1) (record { items = c.mend_with.new.items; capacity = vec_capacity c.push_all-outcome.new.items; comparisons = c.mend_with.new.judge })
-taken g c = mended _ _ _ _ c.len-start.result (behind g c) (omega arith) (omega arith) c.mend_with.ensures.bag (ordered g c) c.mend_with.ensures.counted c.push_all-outcome.ensures.capacity
+taken g c = mended _ _ _ _ c.len-start.result (behind g c) (omega arith) (omega arith) c.mend_with.ensures.bag c.mend_with.ensures.unchanged (ordered g c) c.mend_with.ensures.counted c.push_all-outcome.ensures.capacity
 
 -- the heap is ordered at the end
 pub invariant_of-heap : goal.invariant_of-heap

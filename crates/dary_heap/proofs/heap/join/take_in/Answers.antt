@@ -1,4 +1,4 @@
-use Rattle.std.proofs.Common.{◌≡◌, ◌-◌, length, take, ap, ◌∙◌, sym, subst, arith}
+use Rattle.std.proofs.Common.{◌≡◌, ◌-◌, ◌++◌, length, take, ap, ◌∙◌, sym, subst, arith, append-nil}
 use Rattle.dary_heap.specs.Bounds.{RisesWithin, mend_bound}
 use Rattle.dary_heap.specs.HeapOrder.{IsHeapOrdered}
 use Rattle.dary_heap.proofs.Written.{written_back}
@@ -26,3 +26,11 @@ returns-clause-counted g c =
     let tail : n - c.len-start.result ≡ c.args.others.now.len = omega (arith, c.in-Ok.ensures.len) in
     subst (λ k. RisesWithin c.args.judge.now c.mend_with.new.judge (mend_bound g.row.D c.append.new.self.len k)) tail
     (subst (λ m. RisesWithin c.args.judge.now c.mend_with.new.judge (mend_bound g.row.D m (n - c.len-start.result))) long c.mend_with.ensures.counted)
+
+pub returns-clause-same_items : goal.returns-clause-same_items
+returns-clause-same_items g c = λ none.
+    let zs = c.mend_with.new.items in
+    let xs = c.args.items.now.items in
+    let all : length zs ≡ c.append.new.self.len = omega arith in
+    let is : c.as_mut_slice.result.now ≡ xs = c.as_mut_slice.ensures.value ∙ c.in-Ok.ensures.items ∙ ap (λ ys. xs ++ ys) none ∙ append-nil xs in
+    rw (written_back _ zs _ all) (c.mend_with.ensures.unchanged (omega (arith, ap length is)) ∙ is)

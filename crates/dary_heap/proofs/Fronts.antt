@@ -1,0 +1,84 @@
+-- Which item is the first once an item came in.
+use Rattle.std.proofs.Common.{◌≡◌, ◌≢◌, ℕ, inl, inr, zero, suc, ◌<◌, List, [], ◌∷◌, ◌++◌, length, refl, sym, ap, ◌∙◌, subst, arith, Some, slice_get, Contains, IsPermutation, if◌then◌else◌, length-append}
+use Rattle.std.proofs.lemmas.Bool.{cases_eq}
+use Rattle.std.proofs.lemmas.Option.{slice_get_within}
+use Rattle.std.proofs.lemmas.List.Elements.{Contains-append_cases, Contains-push}
+use Rattle.std.proofs.lemmas.List.Sorted.{IsPermutation-refl, IsPermutation-sym, Contains-permutation, length_permutation}
+use Rattle.std.specs.Cmp.{IsTotalOrder}
+use Rattle.std.specs.Ordering.{is_gt}
+use Rattle.std.specs.declared.cmp.Ordering.{Ordering}
+use Rattle.std.specs.declared.cmp.Ordering.TheVariants.{Less, Equal, Greater}
+use Rattle.dary_heap.specs.HeapOrder.{IsHeapOrdered}
+use Rattle.dary_heap.specs.Sifting.{StaysFirst}
+use Rattle.dary_heap.specs.State.{IsState, IsSameState, front, front_with}
+use Rattle.dary_heap.proofs.Exchange.{Exchanges, slice_get-append}
+use Rattle.dary_heap.proofs.Order.{first_is_greatest, not_greater-trans, read}
+
+-- on the way up from place, the item that came from there is at `at`, and the first is where it was, unless that item is strictly greater
+pub record StaysOnTheWay {X : Type 0} (cmp : X → X → Ordering) (place at : ℕ) (old new : List X) : Type 0 where
+  pub held : (f x : X) → slice_get old 0 ≡ Some f → slice_get old place ≡ Some x → cmp x f ≢ Greater → (slice_get new 0 ≡ Some f) × (slice_get new at ≡ Some x)
+
+module _ {X : Type 0} {cmp : X → X → Ordering} where
+  -- the item at j is strictly greater than its parent's, and they change places
+  pub StaysOnTheWay-step : (old xs ys : List X) (place j p : ℕ) (a b : X) → 0 < j → p < j → slice_get xs j ≡ Some a → slice_get xs p ≡ Some b → cmp a b ≡ Greater → Exchanges xs ys j p → StaysOnTheWay cmp place j old xs → StaysOnTheWay cmp place p old ys
+  StaysOnTheWay-step old xs ys place j p a b up below a_is b_is above e h = record {
+    held = λ f x first at under.
+        let now = h.held f x first at under in
+        let same : a ≡ x = (cc) in
+        elim (cases_eq p 0) [
+          | inl top ↦ absurd (under (let other : b ≡ f = (let here : slice_get xs 0 ≡ Some b = subst (λ k. slice_get xs k ≡ Some b) top b_is in cc) in cc))
+          | inr lower ↦ (e.others 0 (omega arith) (λ is. lower (sym is)) ∙ now.0, e.second ∙ now.1)
+        ];
+  }
+
+  pub StaysFirst-from : (place at : ℕ) (old new : List X) → StaysOnTheWay cmp place at old new → StaysFirst cmp place old new
+  StaysFirst-from place at old new h = record { stays = λ f x p q r. (h.held f x p q r).0 }
+
+-- the one item of a list
+pub alone : {X : Type 0} (x m : X) → Contains (x ∷ []) m → x ≡ m
+alone x m (zero, within, is) = is
+alone x m (suc k, within, is) = absurd (omega arith)
+
+-- a heap is a state
+pub ordered_state : {X : Type 0} {cmp : X → X → Ordering} → IsTotalOrder cmp → (D : ℕ) (xs : List X) → IsHeapOrdered cmp D xs → IsState cmp xs
+ordered_state total D xs ordered = record { greatest = first_is_greatest total D xs ordered }
+
+pub same_state : {X : Type 0} (old new : List X) → new ≡ old → IsSameState old new
+same_state old new same = subst (IsSameState old) (sym same) (record { bag = IsPermutation-refl old; first = refl })
+
+-- the front of a heap to which x came at the end and went up
+module _ {X : Type 0} {cmp : X → X → Ordering} (total : IsTotalOrder cmp) (D : ℕ) (x : X) (ws zs : List X) (bag : IsPermutation ws zs) (ordered : IsHeapOrdered cmp D zs) where
+  -- the first of the heap, which is one of those
+  top : (xs : List X) → ws ≡ xs ++ x ∷ [] → (m : X) × (slice_get zs 0 ≡ Some m) × Contains (xs ++ x ∷ []) m × (cmp x m ≢ Greater)
+  top xs is =
+      let first = read zs 0 (omega (arith, length_permutation ws zs bag, ap length is, length-append xs (x ∷ []))) in
+      let greatest = first_is_greatest total D zs ordered first.0 first.1 in
+      let there : Contains ws first.0 = Contains-permutation zs ws first.0 (IsPermutation-sym ws zs bag) greatest.occurs in
+      let came : Contains ws x = subst (λ l. Contains l x) (sym is) (Contains-push xs x) in
+      (first.0, first.1, subst (λ l. Contains l first.0) is there, greatest.none_above x (Contains-permutation ws zs x bag came))
+
+  above : (xs : List X) (f : X) → slice_get xs 0 ≡ Some f → IsHeapOrdered cmp D xs → ws ≡ xs ++ x ∷ [] → cmp x f ≡ Greater → slice_get zs 0 ≡ Some x
+  above xs f first before is over =
+      let t = top xs is in
+      elim (Contains-append_cases xs (x ∷ []) t.0 t.2) [
+        | inl old ↦ absurd (not_greater-trans total x t.0 f t.3 ((first_is_greatest total D xs before f first).none_above t.0 old) over)
+        | inr new ↦ t.1 ∙ ap Some (sym (alone x t.0 new))
+      ]
+
+  last : (xs : List X) → slice_get (xs ++ x ∷ []) (length xs) ≡ Some x
+  last [] = refl
+  last (y ∷ xs) = last xs
+
+  below : (xs : List X) (f : X) → slice_get xs 0 ≡ Some f → ws ≡ xs ++ x ∷ [] → StaysFirst cmp (length xs) ws zs → cmp x f ≢ Greater → slice_get zs 0 ≡ Some f
+  below xs f first is stays under =
+      let within : 0 < length xs = slice_get_within xs 0 f first in
+      stays.stays f x (ap (λ l. slice_get l 0) is ∙ slice_get-append xs (x ∷ []) 0 within ∙ first) (ap (λ l. slice_get l (length xs)) is ∙ last xs) under
+
+  by_test : (xs : List X) (f : X) → slice_get xs 0 ≡ Some f → IsHeapOrdered cmp D xs → ws ≡ xs ++ x ∷ [] → StaysFirst cmp (length xs) ws zs → (r : Ordering) → cmp x f ≡ r → slice_get zs 0 ≡ Some (if is_gt r then x else f)
+  by_test xs f first before is stays Greater e = above xs f first before is e
+  by_test xs f first before is stays Less e = below xs f first is stays (λ g. cc)
+  by_test xs f first before is stays Equal e = below xs f first is stays (λ g. cc)
+
+  pub pushed_front : (xs : List X) → IsHeapOrdered cmp D xs → ws ≡ xs ++ x ∷ [] → StaysFirst cmp (length xs) ws zs → front zs ≡ Some (front_with cmp x (front xs))
+  pushed_front [] before is stays = let t = top [] is in t.1 ∙ ap Some (sym (alone x t.0 t.2))
+  pushed_front (f ∷ xs) before is stays = by_test (f ∷ xs) f refl before is stays (cmp x f) refl
