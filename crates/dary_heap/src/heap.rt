@@ -129,6 +129,9 @@ impl<T: Ord, const D: usize> DaryHeap<T, D> {
 
     /// Adds an item.
     ///
+    /// `peek` shows it from then on where the heap was empty or it is strictly greater than the item that
+    /// `peek` showed; otherwise `peek` shows the same item as before, an equal one too.
+    ///
     /// It takes at most as many comparisons as the new place is deep. Where the length has reached the
     /// capacity, and only there, it asks for memory. Where that is refused, and only then, the item
     /// comes back and the heap is as it was.

@@ -22,9 +22,9 @@ pub enum Command<T: Ord, const D: usize, P> {
     Push(T),
     /// Takes a greatest item out.
     Pop,
-    /// Takes a greatest item out, if the predicate answers yes to it.
+    /// Takes a greatest item out, the one that a pop would take, if the predicate answers yes to it.
     PopIf(P),
-    /// Asks a predicate about a greatest item.
+    /// Asks a predicate about a greatest item, the one that a pop would take.
     Ask(P),
     /// Counts the items.
     Len,
@@ -64,12 +64,15 @@ pub enum Reply<T: Ord, const D: usize> {
 /// It asks of the caller that each predicate may be called on the items that the heap and the commands
 /// hold.
 ///
-/// The replies and the items are a run of the bag machine. Of the pushes, as many as there is room for
-/// at the start are not refused, where no more than pushes, pops, questions and counts come before
-/// them; and where nothing else comes at all, there is room for the rest of them afterwards. The heap takes at most the sum of the charges of the steps, in comparisons: for a push the
-/// depth of the new place, for a pop the arity times the depth of the last place that remains, for an
-/// extend the repair of as many items as came in, for an append that of as many as the shorter heap
-/// had, for a retain that of all that are left, and for the others none.
+/// The replies and the items are a run of the bag machine. Its front is the first item of `as_slice`, at
+/// the start and at the end. Of the pushes, as many as there is room for at the start are not refused,
+/// where no more than pushes, pops, questions and counts come before them; and where nothing else comes
+/// at all, there is room for the rest of them afterwards.
+///
+/// The heap takes at most the sum of the charges of the steps, in comparisons: for a push the depth of
+/// the new place, for a pop the arity times the depth of the last place that remains, for an extend the
+/// repair of as many items as came in, for an append that of as many as the shorter heap had, for a
+/// retain that of all that are left, and for the others none.
 ///
 /// Room for all replies is reserved first; no command needs none. Where that is refused, and only then,
 /// the commands come back in their order, and the heap is as it was.
@@ -100,12 +103,14 @@ pub fn run<T: Ord + Drop, const D: usize, P: FnMut(&T) -> bool>(
     Ok(replies)
 }
 
-/// The law on two arities. It does nothing when it runs.
+/// The law on two arities: without ties, the arity is a matter of speed alone. It does nothing when it
+/// runs, takes no memory and compares nothing.
 ///
 /// Take any two runs of the bag machine from states with the same bag, by the same commands, none of
 /// which holds a predicate or a heap or drains in slice order. Where no two different values of the bag
 /// and the commands compare equal and nothing is refused, the replies are equal, and so are the bags at
-/// the end. The machine knows no arity, so this holds of what [`run`] gives at any two.
+/// the end. The machine knows no arity, so this holds of what [`run`] gives at any two: the lemma
+/// `RunsUnrefused-from` of `proofs/SameReplies.antt` takes its `Runs` there.
 pub fn two_arities<T: Ord, P: FnMut(&T) -> bool>()
     ensures { SameRepliesAtTwoArities T.cmp (CalledAt P.FnMut) }
 {}

@@ -1,4 +1,4 @@
-//! Random lists of commands, whose replies are compared with those of a plain bag.
+//! Random lists of commands, whose replies are compared with those of a plain bag and its front.
 ghost use Rattle.std.specs.Prelude.{◌/◌};
 
 use crate::ties::Tagged;
@@ -7,12 +7,13 @@ use dary_heap::run::{Command, Reply, run};
 use rand::{Rng, SeedableRng};
 use rand_pcg::Pcg32;
 use std::alloc::{AllocError, Global};
+use std::cell::Cell;
 use std::process::Abort;
 use std::test::Fail;
 
 /// What a command does. A number goes with each, which says with what.
 #[derive(Clone, Copy, Debug)]
-enum Kind {
+pub enum Kind {
     Push,
     Pop,
     PopIf,
@@ -25,7 +26,7 @@ enum Kind {
 }
 
 /// Draws a kind of command and its number.
-fn draw(rng: &mut Pcg32) -> (Kind, u32) {
+pub fn draw(rng: &mut Pcg32) -> (Kind, u32) {
     let kind = match rng.next_u32() % 32 {
         0..=9 => Kind::Push,
         10..=14 => Kind::Pop,
@@ -69,7 +70,7 @@ fn many_items(alloc: Global, number: u32, ties: bool) -> Result<Vec<Tagged>, All
 }
 
 /// The command of this kind and number, with the predicate that it may ask.
-fn command<const D: usize, P: FnMut(&Tagged) -> bool + Drop>(
+pub fn command<const D: usize, P: FnMut(&Tagged) -> bool + Drop>(
     alloc: Global,
     kind: Kind,
     number: u32,
@@ -89,51 +90,121 @@ fn command<const D: usize, P: FnMut(&Tagged) -> bool + Drop>(
     })
 }
 
-/// The part of a greatest item that is compared.
-fn greatest(bag: &[u32], ties: bool) -> Option<u32> {
-    bag.iter().map(|item| part(*item, ties)).max()
+/// A bag, and its front where it is known which item that is.
+#[derive(Drop)]
+struct Bag {
+    items: Vec<u32>,
+    front: Option<u32>,
+    ties: bool,
 }
 
-/// Takes an item out of the bag, if it is there.
-fn take(bag: &mut Vec<u32>, item: u32) -> bool {
-    let Some(place) = bag.iter().position(|other| *other == item) else {
-        return false;
-    };
-    bag.swap_remove(place);
-    true
-}
+impl Bag {
+    fn new(alloc: Global, ties: bool) -> Bag {
+        Bag {
+            items: Vec::new(alloc),
+            front: None,
+            ties,
+        }
+    }
 
-/// Whether a pop of the bag may give this. It is taken out.
-fn pops(bag: &mut Vec<u32>, ties: bool, item: Option<&Tagged>) -> bool {
-    match item {
-        Some(item) => greatest(bag, ties) == Some(item.key) && take(bag, item.tag),
-        None => bag.is_empty(),
+    /// The part of a greatest item that is compared.
+    fn greatest(&self) -> Option<u32> {
+        self.items.iter().map(|item| part(*item, self.ties)).max()
+    }
+
+    /// Whether this may be the front. From now on it is.
+    fn shows(&mut self, item: u32) -> bool {
+        let is_greatest = self.greatest() == Some(part(item, self.ties));
+        let is_known = match self.front {
+            Some(front) => front == item,
+            None => self.items.contains(&item),
+        };
+        self.front = Some(item);
+        is_greatest && is_known
+    }
+
+    /// Takes an item out, if it is there.
+    fn take(&mut self, item: u32) -> bool {
+        let Some(place) = self.items.iter().position(|other| *other == item) else {
+            return false;
+        };
+        self.items.swap_remove(place);
+        true
+    }
+
+    /// Adds an item, which comes to the front where none is as great.
+    fn push(&mut self, number: u32) -> Result<(), AllocError> {
+        if self.greatest() < Some(part(number, self.ties)) {
+            self.front = Some(number);
+        }
+        self.items.push(number)?;
+        Ok(())
+    }
+
+    /// Whether a pop may give this. It is taken out.
+    fn pops(&mut self, item: Option<&Tagged>) -> bool {
+        let Some(item) = item else {
+            return self.items.is_empty();
+        };
+        let is_front = self.shows(item.tag) && self.take(item.tag);
+        self.front = None;
+        is_front
+    }
+
+    /// Whether this may be the first item that a predicate was asked about.
+    fn asks(&mut self, asked: Option<u32>) -> bool {
+        match asked {
+            Some(item) => self.shows(item),
+            None => self.items.is_empty(),
+        }
+    }
+
+    /// Keeps the items that the predicate of a number passes.
+    fn retain(&mut self, number: u32) {
+        let len = self.items.len();
+        let ties = self.ties;
+        self.items.retain(|item| passes(number, part(*item, ties)));
+        if self.items.len() < len {
+            self.front = None;
+        }
+    }
+
+    /// Adds many items.
+    fn extend(&mut self, numbers: Vec<u32>) -> Result<(), AllocError> {
+        if !numbers.is_empty() {
+            self.front = None;
+        }
+        self.items.extend(numbers)
     }
 }
+
+/// What a command of this kind and number asked its predicate about first.
+type Drawn = (Kind, u32, Option<u32>);
 
 /// Whether the bag may reply so. It is then what the command leaves.
 fn replies<const D: usize>(
     alloc: Global,
-    bag: &mut Vec<u32>,
-    ties: bool,
-    kind: Kind,
-    number: u32,
+    bag: &mut Bag,
+    (kind, number, asked): Drawn,
     reply: &Reply<Tagged, D>,
 ) -> Result<bool, AllocError> {
+    let answer = asked.map(|item| passes(number, part(item, bag.ties)));
     match (kind, reply) {
         (Kind::Push, Reply::Pushed) => bag.push(number)?,
-        (Kind::Pop, Reply::Popped(item)) => return Ok(pops(bag, ties, item.as_ref())),
-        (Kind::PopIf, Reply::Popped(item)) => match greatest(bag, ties) {
-            Some(part) if passes(number, part) => return Ok(pops(bag, ties, item.as_ref())),
-            _ => return Ok(item.is_none()),
-        },
-        (Kind::Ask, Reply::Asked(answer)) => {
-            return Ok(*answer == greatest(bag, ties).map(|part| passes(number, part)));
+        (Kind::Pop, Reply::Popped(item)) => return Ok(bag.pops(item.as_ref())),
+        (Kind::PopIf, Reply::Popped(item)) if answer == Some(true) => {
+            return Ok(bag.asks(asked) && bag.pops(item.as_ref()));
         }
-        (Kind::Len, Reply::Len(len)) => return Ok(*len == bag.len()),
-        (Kind::Retain, Reply::Done) => bag.retain(|item| passes(number, part(*item, ties))),
+        (Kind::PopIf, Reply::Popped(item)) => return Ok(bag.asks(asked) && item.is_none()),
+        (Kind::Ask, Reply::Asked(given)) => return Ok(bag.asks(asked) && *given == answer),
+        (Kind::Len, Reply::Len(len)) => return Ok(*len == bag.items.len()),
+        (Kind::Retain, Reply::Done) => {
+            let is_right = bag.asks(asked);
+            bag.retain(number);
+            return Ok(is_right);
+        }
         (Kind::Extend | Kind::Append, Reply::Done) => bag.extend(many(alloc, number)?)?,
-        (Kind::Clear, Reply::Done) => bag.clear(),
+        (Kind::Clear, Reply::Done) => bag.retain(0),
         _ => return Ok(false),
     }
     Ok(true)
@@ -142,22 +213,21 @@ fn replies<const D: usize>(
 /// Compares the replies to commands, and what is left, with a bag that begins without items.
 fn replies_as_a_bag<const D: usize>(
     rt: &impl Abort,
-    alloc: Global,
-    ties: bool,
-    drawn: &[(Kind, u32)],
+    mut bag: Bag,
+    drawn: &[Drawn],
     given: &[Reply<Tagged, D>],
     left: &[Tagged],
 ) -> Result<(), Fail> {
     assert_eq!(rt; given.len(), drawn.len());
-    let mut bag = Vec::new(alloc);
-    for ((kind, number), reply) in drawn.iter().zip(given) {
-        let is_right = replies(alloc, &mut bag, ties, *kind, *number, reply)?;
-        assert!(rt; is_right, "{kind:?} {number}, after which {bag:?}");
+    for (command, reply) in drawn.iter().zip(given) {
+        let is_right = replies(*bag.items.allocator(), &mut bag, *command, reply)?;
+        assert!(rt; is_right, "{command:?}, after which {:?}", bag.items);
     }
+    assert!(rt; bag.asks(left.first().map(|item| item.tag)));
     for item in left {
-        assert!(rt; take(&mut bag, item.tag));
+        assert!(rt; bag.take(item.tag));
     }
-    assert!(rt; bag.is_empty());
+    assert!(rt; bag.items.is_empty());
     Ok(())
 }
 
@@ -169,11 +239,15 @@ fn act_as_on_a_bag<const D: usize>(
     ties: bool,
     rng: &mut Pcg32,
 ) -> Result<(), Fail> {
+    let asked: Vec<Cell<Option<u32>>> = (0..30).map(|_| Cell::new(None)).collect(alloc)?;
     let mut drawn = Vec::with_capacity(alloc, 30)?;
     let mut commands = Vec::with_capacity(alloc, 30)?;
-    for _ in 0..30 {
+    for first in &asked {
         let (kind, number) = draw(rng);
-        let predicate = move |item: &Tagged| passes(number, item.key);
+        let predicate = move |item: &Tagged| {
+            first.set(first.get().or(Some(item.tag)));
+            passes(number, item.key)
+        };
         drawn.push((kind, number))?;
         commands
             .push(command::<D, _>(alloc, kind, number, ties, predicate)?)
@@ -183,7 +257,11 @@ fn act_as_on_a_bag<const D: usize>(
     let Ok(given) = run(alloc, &mut heap, commands) else {
         return Err(Fail::from("no room for the replies"));
     };
-    replies_as_a_bag(rt, alloc, ties, &drawn, &given, heap.as_slice())
+    let told = drawn.iter().zip(&asked);
+    let told: Vec<Drawn> = told
+        .map(|((kind, number), first)| (*kind, *number, first.get()))
+        .collect(alloc)?;
+    replies_as_a_bag(rt, Bag::new(alloc, ties), &told, &given, heap.as_slice())
 }
 
 /// Three hundred lists at one arity, half of them with ties.

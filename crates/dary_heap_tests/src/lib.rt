@@ -39,4 +39,6 @@ mod ties;
 #[cfg(test)]
 mod twins;
 #[cfg(test)]
+mod two_arities;
+#[cfg(test)]
 mod types;

@@ -6,6 +6,7 @@ ghost use Rattle.std.specs.Ordering.{nat_cmp, on, as_partial_cmp};
 
 use dary_heap::BinaryHeap;
 use dary_heap::heap::DaryHeap;
+use dary_heap::run::{Command, Reply, run};
 use std::alloc::{AllocError, Global};
 use std::cmp::Ordering;
 use std::process::Abort;
@@ -108,5 +109,45 @@ fn equal_items_come_out_one_by_one(rt: HostRuntime) -> Result<(), Fail> {
         assert_eq!(rt; heap.pop().map(|item| (item.key, item.tag)), Some((1, tag)));
     }
     assert!(rt; heap.pop().is_none());
+    Ok(())
+}
+
+/// Pushes two items onto a new heap, asks about the tag 1, and pops.
+#[tactic(auto, using(dary_heap::proofs::Callable::all_callable))]
+fn ask_and_pop(
+    alloc: Global,
+    first: Tagged,
+    second: Tagged,
+) -> Result<(Option<bool>, Option<u32>), Fail> {
+    let mut heap = BinaryHeap::new(alloc);
+    let commands = vec![in alloc;
+        Command::Push(first),
+        Command::Push(second),
+        Command::Ask(|item: &Tagged| item.tag == 1),
+        Command::Pop,
+    ]?;
+    let Ok(replies) = run(alloc, &mut heap, commands) else {
+        return Err(Fail::from("no room for the replies"));
+    };
+    match replies.as_slice() {
+        [
+            Reply::Pushed,
+            Reply::Pushed,
+            Reply::Asked(answer),
+            Reply::Popped(item),
+        ] => Ok((*answer, item.as_ref().map(|item| item.tag))),
+        _ => Err(Fail::from("other replies")),
+    }
+}
+
+#[test]
+fn a_question_is_about_the_item_that_is_popped(rt: HostRuntime) -> Result<(), Fail> {
+    let alloc = rt.alloc();
+    // The second is equal, and stays behind the first.
+    let given = ask_and_pop(alloc, Tagged { key: 1, tag: 1 }, Tagged { key: 1, tag: 2 })?;
+    assert_eq!(rt; given, (Some(true), Some(1)));
+    // The second is greater, and comes before it.
+    let given = ask_and_pop(alloc, Tagged { key: 1, tag: 1 }, Tagged { key: 2, tag: 3 })?;
+    assert_eq!(rt; given, (Some(false), Some(3)));
     Ok(())
 }

@@ -20,7 +20,8 @@ impl<T: Ord, const D: usize> DaryHeap<T, D> {
     /// The longer of the two receives the items of the other, this one where they are as long. Room is
     /// reserved in it first. That is refused only where its capacity is below the sum of the lengths,
     /// and then both heaps are as they were. Otherwise the items of the shorter are put behind and
-    /// mended: it takes at most as many comparisons as the repair of that tail. Each heap keeps its own
+    /// mended: it takes at most as many comparisons as the repair of that tail. Where `other` is empty
+    /// this heap's slice stays as it is. Each heap keeps its own
     /// count, and `other` compares nothing. Where `other` is the longer the two exchange their capacities.
     ///
     /// ```
@@ -131,9 +132,10 @@ fn extend_heap<T: Ord + Drop, X: Element<T>, U: IntoIterator<Item = X>, const D:
 
 /// Adds what the iterator gives, in its order, and mends once.
 ///
-/// It asks that the iterator ends. Where there is no memory for an item, which comes only at full
-/// capacity, the items before it are in the heap, and it and the rest are given up. It takes at most as
-/// many comparisons as the repair of a tail of as many items as came in.
+/// It asks that the iterator ends. Where nothing comes the slice stays as it is. Where there is no
+/// memory for an item, which comes only at full capacity, the items before it are in the heap, and it
+/// and the rest are given up. It takes at most as many comparisons as the repair of a tail of as many
+/// items as came in.
 ///
 /// ```
 /// let mut heap = BinaryHeap::from(vec![in alloc; 3, 1, 2]?);
