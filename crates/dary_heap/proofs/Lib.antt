@@ -1,9 +1,11 @@
 pub mod Asking
 pub mod Callable
+pub mod Cloning
 pub mod Cost
 pub mod Depth
 pub mod Drifting
 pub mod Exchange
+pub mod Iterating
 pub mod Order
 pub mod Place
 pub mod Rising

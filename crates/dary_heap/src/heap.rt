@@ -41,8 +41,8 @@ mod join;
 /// ```
 #[derive(Drop)]
 pub struct DaryHeap<T: Ord, const D: usize> {
-    items: Vec<T>,
-    judge: ByOrd,
+    pub(crate) items: Vec<T>,
+    pub(crate) judge: ByOrd,
 }
 
 impl<T: Ord, const D: usize> Model for DaryHeap<T, D> {

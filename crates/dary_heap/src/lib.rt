@@ -22,6 +22,7 @@
 #![tactic(auto)]
 
 pub mod heap;
+pub mod iter;
 pub mod run;
 pub mod sift;
 
@@ -29,3 +30,4 @@ pub use heap::{
     BinaryHeap, DaryHeap, OctonaryHeap, QuaternaryHeap, QuinaryHeap, SenaryHeap, SeptenaryHeap,
     TernaryHeap,
 };
+pub use iter::{Drain, IntoIter, Iter};

@@ -1,0 +1,9 @@
+//! Iterators over the items of a heap, in the order in which they are stored or in descending order.
+
+mod drain;
+mod owned;
+mod shared;
+
+pub use drain::Drain;
+pub use owned::IntoIter;
+pub use shared::Iter;

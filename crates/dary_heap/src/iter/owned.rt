@@ -1,0 +1,118 @@
+//! The iterator that gives the items of a heap away.
+ghost use Rattle.std.specs.Prelude.{◌≡◌, ◌^◌, ◌<◌, length, vec_len, Some, Contains, IfOk, IfSome};
+ghost use Rattle.std.specs.Iterator.{YieldsFirst, YieldsLast, UpTo, item_count};
+ghost use Rattle.std.specs.Iterator.Runs.{YieldsInOrder, YieldsInReverse};
+ghost use Rattle.std.specs.Iterator.SizeHint.{IsWithinCount};
+
+use crate::heap::DaryHeap;
+use std::alloc::AllocError;
+use std::collections::VecDeque;
+use std::fmt;
+use std::iter::FusedIterator;
+use std::marker::Model;
+
+/// The items of a heap, in the order in which they were stored there.
+///
+/// A clause sees it as the list of the items that are left.
+#[derive(Drop)]
+pub struct IntoIter<T> {
+    pub(super) rest: VecDeque<T>,
+}
+
+impl<T> Model for IntoIter<T> {
+    ghost use Rattle.std.specs.Prelude.{List};
+
+    ghost Value = { List T };
+
+    ghost view = { λ it. it.rest.items };
+}
+
+impl<T> IntoIter<T> {
+    pub(super) fn of(items: Vec<T>) -> IntoIter<T>
+        ensures items { result ≡ items.items }
+        ensures fits { length result < 2 ^ 64 }
+    {
+        IntoIter {
+            rest: VecDeque::from(items),
+        }
+    }
+
+    /// An iterator over clones of what is left. It compares nothing.
+    ///
+    /// It asks that each item's clone gives the same value. It is refused only for want of memory, here
+    /// or in an item's `clone`.
+    pub fn clone(&self) -> Result<Self, AllocError>
+    where
+        T: Clone + Drop,
+        requires { (x y : T) → Contains self.now x → T.is_clone x y → y ≡ x }
+        ensures { IfOk result (λ copy. copy ≡ self.now) }
+    {
+        Ok(IntoIter {
+            rest: self.rest.clone()?,
+        })
+    }
+}
+
+impl<T: Drop> Iterator for IntoIter<T> {
+    type Item = T;
+
+    ghost next_gives = { YieldsFirst (λ rest. rest) };
+
+    ghost remaining = { item_count (λ rest. rest) };
+
+    fn next(&mut self) -> Option<T> {
+        self.rest.pop_front()
+    }
+
+    fn size_hint(&self) -> (usize, Option<usize>)
+        ensures lower { IsWithinCount result.0 (item_count (λ rest. rest) self.now) }
+        ensures upper { IfSome result.1 (UpTo (item_count (λ rest. rest) self.now)) }
+        ensures exact { (result.0 ≡ length self.now) × (result.1 ≡ Some (length self.now)) }
+    {
+        let len = self.len();
+        (len, Some(len))
+    }
+}
+
+impl<T: Drop> DoubleEndedIterator for IntoIter<T> {
+    ghost next_back_gives = { YieldsLast (λ rest. rest) };
+
+    fn next_back(&mut self) -> Option<T> {
+        self.rest.pop_back()
+    }
+}
+
+impl<T: Drop> ExactSizeIterator for IntoIter<T> {
+    fn len(&self) -> usize {
+        self.rest.len()
+    }
+}
+
+impl<T: Drop> FusedIterator for IntoIter<T> {}
+
+impl<T: fmt::Debug> fmt::Debug for IntoIter<T> {
+    fn fmt<W: fmt::Write>(&self, f: &mut fmt::Formatter<W>) -> fmt::Result {
+        f.debug_tuple("IntoIter").field(&self.rest).finish()
+    }
+}
+
+/// The items in the order in which they are stored, by value. It compares nothing and takes no memory.
+///
+/// ```
+/// let heap = BinaryHeap::from(vec![in alloc; 1, 2, 3]?);
+/// let items: Vec<i32> = heap.into_iter().collect(alloc)?;
+/// assert_eq!(rt; items.as_slice(), [3, 2, 1].as_slice());
+/// ```
+impl<T: Ord + Drop, const D: usize> IntoIterator for DaryHeap<T, D> {
+    type Item = T;
+
+    type IntoIter = IntoIter<T>;
+
+    ghost into_iter_gives = { λ heap it. (it ≡ heap.items) × (length it < 2 ^ 64)
+        × YieldsInOrder (YieldsFirst {A = T} (λ rest. rest)) (λ rest. rest)
+        × YieldsInReverse (YieldsLast {A = T} (λ rest. rest)) (λ rest. rest) };
+
+    fn into_iter(self) -> IntoIter<T> {
+        IntoIter::of(self.into_vec())
+    }
+}
