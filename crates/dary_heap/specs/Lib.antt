@@ -8,6 +8,7 @@ pub mod Extending
 pub mod Filtering
 pub mod HeapOrder
 pub mod Machine
+pub mod Popping
 pub mod Reading
 pub mod Run
 pub mod Sifting

@@ -3,7 +3,9 @@
 mod drain;
 mod owned;
 mod shared;
+mod sorted;
 
 pub use drain::Drain;
 pub use owned::IntoIter;
 pub use shared::Iter;
+pub use sorted::IntoIterSorted;

@@ -1,0 +1,105 @@
+//! The iterator that pops the items of a heap.
+ghost use Rattle.std.specs.Prelude.{◌≡◌, ◌^◌, ◌<◌, length, Some, Contains, IfOk, IfSome};
+ghost use Rattle.std.specs.Iterator.{UpTo, item_count};
+ghost use Rattle.std.specs.Iterator.SizeHint.{IsWithinCount};
+ghost use Rattle.dary_heap.specs.Bounds.{RisesWithin, build_bound};
+ghost use Rattle.dary_heap.specs.Contents.{Contents};
+ghost use Rattle.dary_heap.specs.HeapOrder.{IsHeapOrdered};
+ghost use Rattle.dary_heap.specs.Popping.{IsPop};
+
+use crate::heap::DaryHeap;
+use std::alloc::AllocError;
+use std::fmt;
+use std::iter::FusedIterator;
+use std::marker::Model;
+
+/// The items of a heap in descending order, each taken out by a pop.
+///
+/// A clause sees it as the heap that it pops from.
+#[derive(Drop)]
+pub struct IntoIterSorted<T: Ord, const D: usize> {
+    heap: DaryHeap<T, D>,
+}
+
+impl<T: Ord, const D: usize> Model for IntoIterSorted<T, D> {
+    ghost use Rattle.dary_heap.specs.Contents.{Contents};
+
+    ghost Value = { Contents T };
+
+    ghost view = { λ it. it.heap };
+}
+
+impl<T: Ord, const D: usize> DaryHeap<T, D> {
+    /// The items in descending order. Equal items come in the order in which pops give them.
+    ///
+    /// Each item takes as many comparisons as its pop, and only when it is asked for. It takes no
+    /// memory.
+    ///
+    /// ```
+    /// let heap = QuaternaryHeap::from(vec![in alloc; 1, 2, 3, 4, 5]?);
+    /// let greatest: Vec<i32> = heap.into_iter_sorted().take(2).collect(alloc)?;
+    /// assert_eq!(rt; greatest.as_slice(), [5, 4].as_slice());
+    /// ```
+    pub fn into_iter_sorted(self) -> IntoIterSorted<T, D>
+        ensures heap { result ≡ self }
+        ensures ordered { IsHeapOrdered T.cmp D self.items }
+        ensures fits { length self.items < 2 ^ 64 }
+    {
+        // It ensures that the heap is ordered.
+        let _ = self.as_slice();
+        IntoIterSorted { heap: self }
+    }
+}
+
+impl<T: Ord, const D: usize> IntoIterSorted<T, D> {
+    /// An iterator over clones of what is left.
+    ///
+    /// It asks that each item's clone gives the same value. It is refused only for want of memory, here
+    /// or in an item's `clone`. It builds after copying, as the heap's `clone`.
+    pub fn clone(&self) -> Result<Self, AllocError>
+    where
+        T: Clone + Drop,
+        requires { (x y : T) → Contains self.now.items x → T.is_clone x y → y ≡ x }
+        ensures items { IfOk result (λ copy. copy.items ≡ self.now.items) }
+        ensures counted { IfOk result (λ copy. RisesWithin 0 copy.comparisons (build_bound D (length self.now.items))) }
+    {
+        Ok(IntoIterSorted {
+            heap: self.heap.clone()?,
+        })
+    }
+}
+
+impl<T: Ord + Drop, const D: usize> Iterator for IntoIterSorted<T, D> {
+    type Item = T;
+
+    ghost next_gives = { IsPop T.cmp D };
+
+    ghost remaining = { item_count (λ heap. heap.items) };
+
+    fn next(&mut self) -> Option<T> {
+        self.heap.pop()
+    }
+
+    fn size_hint(&self) -> (usize, Option<usize>)
+        ensures lower { IsWithinCount result.0 (item_count (λ heap. heap.items) self.now) }
+        ensures upper { IfSome result.1 (UpTo (item_count (λ heap. heap.items) self.now)) }
+        ensures exact { (result.0 ≡ length self.now.items) × (result.1 ≡ Some (length self.now.items)) }
+    {
+        let len = self.len();
+        (len, Some(len))
+    }
+}
+
+impl<T: Ord + Drop, const D: usize> ExactSizeIterator for IntoIterSorted<T, D> {
+    fn len(&self) -> usize {
+        self.heap.len()
+    }
+}
+
+impl<T: Ord + Drop, const D: usize> FusedIterator for IntoIterSorted<T, D> {}
+
+impl<T: Ord + fmt::Debug, const D: usize> fmt::Debug for IntoIterSorted<T, D> {
+    fn fmt<W: fmt::Write>(&self, f: &mut fmt::Formatter<W>) -> fmt::Result {
+        f.debug_tuple("IntoIterSorted").field(&self.heap).finish()
+    }
+}
