@@ -7,6 +7,7 @@ pub mod Drifting
 pub mod Exchange
 pub mod Iterating
 pub mod Order
+pub mod Popping
 pub mod Place
 pub mod Rising
 pub mod Row

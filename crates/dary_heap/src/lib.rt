@@ -30,4 +30,4 @@ pub use heap::{
     BinaryHeap, DaryHeap, OctonaryHeap, QuaternaryHeap, QuinaryHeap, SenaryHeap, SeptenaryHeap,
     TernaryHeap,
 };
-pub use iter::{Drain, IntoIter, IntoIterSorted, Iter};
+pub use iter::{Drain, DrainSorted, IntoIter, IntoIterSorted, Iter};

@@ -1,0 +1,13 @@
+use Rattle.std.proofs.Common.{◌≡◌, ◌+◌, ◌≤◌, length}
+use Rattle.dary_heap.specs.Bounds.{pops_bound}
+use Rattle.dary_heap.proofs.iter.drain_sorted.DrainSorted.drop.Given as goal
+
+-- what was popped took no more comparisons than those pops may
+abbrev pub invariant-loop : goal.invariant-loop
+invariant-loop g l =
+    (l.heap.capacity ≡ l.initial.heap.capacity)
+    × (l.initial.heap.comparisons ≤ l.heap.comparisons)
+    × (l.heap.comparisons + pops_bound g.row.D (length l.heap.items) ≤ l.initial.heap.comparisons + pops_bound g.row.D (length l.initial.heap.items))
+
+abbrev pub decreases-loop : goal.decreases-loop
+decreases-loop g l = length l.heap.items

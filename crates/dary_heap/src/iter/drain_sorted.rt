@@ -1,0 +1,86 @@
+//! The iterator that pops the items of a heap and leaves it empty.
+ghost use Rattle.std.specs.Prelude.{◌≡◌, ◌^◌, ◌<◌, [], length, Some, IfSome};
+ghost use Rattle.std.specs.Iterator.{UpTo, item_count};
+ghost use Rattle.std.specs.Iterator.SizeHint.{IsWithinCount};
+ghost use Rattle.dary_heap.specs.Bounds.{RisesWithin, pops_bound};
+ghost use Rattle.dary_heap.specs.HeapOrder.{IsHeapOrdered};
+
+use crate::heap::DaryHeap;
+use std::fmt;
+use std::iter::FusedIterator;
+
+/// Takes the items of a heap out in descending order, each by a pop. Once dropped it leaves the heap
+/// empty: it pops what was not taken, and gives that up.
+pub struct DrainSorted<'a, T: Ord + Drop, const D: usize> {
+    heap: &'a mut DaryHeap<T, D>,
+}
+
+impl<'a, T: Ord + Drop, const D: usize> Drop for DrainSorted<'a, T, D> {
+    ghost use Rattle.dary_heap.specs.DrainSorted.{drained_heap};
+
+    #[tactic(auto, using(crate::proofs::Popping::pops_bound_step))]
+    fn drop(self)
+        ensures items { self.exit.0.now.items ≡ [] }
+        ensures capacity { self.exit.0.now.capacity ≡ (drained_heap self.entry).capacity }
+        ensures counted { RisesWithin (drained_heap self.entry).comparisons self.exit.0.now.comparisons (pops_bound D (length (drained_heap self.entry).items)) }
+    {
+        let DrainSorted { heap } = self;
+        while let Some(_) = heap.pop() {}
+    }
+}
+
+impl<T: Ord, const D: usize> DaryHeap<T, D> {
+    ghost use Rattle.dary_heap.specs.DrainSorted.{drained_heap, drained_lender, KeepsHeapAlong};
+
+    /// Takes the items out in descending order.
+    pub fn drain_sorted(&mut self) -> DrainSorted<'_, T, D>
+    where
+        T: Drop,
+        ensures heap { drained_heap result ≡ self.old }
+        ensures ordered { IsHeapOrdered T.cmp D self.old.items }
+        ensures fits { length self.old.items < 2 ^ 64 }
+        ensures same_reference { drained_lender result ≡ self.entry.ghost_name }
+        ensures stays { KeepsHeapAlong T.cmp result }
+    {
+        // It ensures that the heap is ordered.
+        let _ = self.as_slice();
+        DrainSorted { heap: self }
+    }
+}
+
+impl<T: Ord + Drop, const D: usize> Iterator for DrainSorted<'_, T, D> {
+    ghost use Rattle.dary_heap.specs.DrainSorted.{drained_heap, DrainsSorted};
+
+    type Item = T;
+
+    ghost next_gives = { DrainsSorted T.cmp };
+
+    ghost remaining = { item_count (λ it. (drained_heap it).items) };
+
+    fn next(&mut self) -> Option<T> {
+        self.heap.pop()
+    }
+
+    fn size_hint(&self) -> (usize, Option<usize>)
+        ensures lower { IsWithinCount result.0 (item_count (λ it. (drained_heap it).items) self.now) }
+        ensures upper { IfSome result.1 (UpTo (item_count (λ it. (drained_heap it).items) self.now)) }
+        ensures exact { (result.0 ≡ length (drained_heap self.now).items) × (result.1 ≡ Some (length (drained_heap self.now).items)) }
+    {
+        let len = self.len();
+        (len, Some(len))
+    }
+}
+
+impl<T: Ord + Drop, const D: usize> ExactSizeIterator for DrainSorted<'_, T, D> {
+    fn len(&self) -> usize {
+        self.heap.len()
+    }
+}
+
+impl<T: Ord + Drop, const D: usize> FusedIterator for DrainSorted<'_, T, D> {}
+
+impl<T: Ord + Drop + fmt::Debug, const D: usize> fmt::Debug for DrainSorted<'_, T, D> {
+    fn fmt<W: fmt::Write>(&self, f: &mut fmt::Formatter<W>) -> fmt::Result {
+        f.debug_tuple("DrainSorted").field(&*self.heap).finish()
+    }
+}
