@@ -15,7 +15,11 @@ mod commands;
 #[cfg(test)]
 mod depths;
 #[cfg(test)]
+mod drops;
+#[cfg(test)]
 mod filters;
+#[cfg(test)]
+mod iterators;
 #[cfg(test)]
 mod joined;
 #[cfg(test)]
@@ -34,6 +38,8 @@ mod rooms;
 mod shuffles;
 #[cfg(test)]
 mod sifts;
+#[cfg(test)]
+mod sorted;
 #[cfg(test)]
 mod ties;
 #[cfg(test)]

@@ -58,7 +58,7 @@ impl Ord for Tagged {
 }
 
 /// The heap that is built from these keys and tags.
-fn heap_of<const D: usize>(
+pub fn heap_of<const D: usize>(
     alloc: Global,
     pairs: &[(u32, u32)],
 ) -> Result<DaryHeap<Tagged, D>, AllocError> {
