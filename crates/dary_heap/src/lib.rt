@@ -18,6 +18,7 @@
 //!
 //! - [`sift`] moves items along the paths of the tree, for any judge of items, and counts comparisons;
 //! - [`heap`] has the heap;
+//! - [`iter`] goes over the items of a heap, as they are stored or in descending order;
 //! - [`run`] carries lists of commands out, against the machine that says what a heap may answer.
 #![tactic(auto)]
 
