@@ -2,8 +2,10 @@
 use dary_heap::heap::DaryHeap;
 use dary_heap::sift::{ByOrd, Tally};
 use dary_heap::{
-    BinaryHeap, OctonaryHeap, QuaternaryHeap, QuinaryHeap, SenaryHeap, SeptenaryHeap, TernaryHeap,
+    BinaryHeap, Drain, DrainSorted, IntoIter, IntoIterSorted, Iter, OctonaryHeap, QuaternaryHeap,
+    QuinaryHeap, SenaryHeap, SeptenaryHeap, TernaryHeap,
 };
+use std::test::Fail;
 
 #[test]
 fn the_count_of_a_heap_takes_no_bytes(rt: HostRuntime) {
@@ -33,4 +35,21 @@ fn a_heap_goes_to_other_threads(rt: HostRuntime) {
     let heap = DaryHeap::<i32, 2>::new(rt.alloc());
     goes_to_threads(&heap);
     goes_to_threads(&Tally::new());
+}
+
+#[test]
+fn iterators_are_named_at_the_root(rt: HostRuntime) -> Result<(), Fail> {
+    let mut heap = BinaryHeap::from([2, 1].to_vec(rt.alloc())?);
+    let lent: Iter<'_, i32> = heap.iter();
+    goes_to_threads(&lent);
+    let sorted: IntoIterSorted<i32, 2> = heap.clone()?.into_iter_sorted();
+    goes_to_threads(&sorted);
+    let given: IntoIter<i32> = heap.clone()?.into_iter();
+    goes_to_threads(&given);
+    let taken: DrainSorted<'_, i32, 2> = heap.drain_sorted();
+    assert_eq!(rt; taken.len(), 2);
+    drop(taken);
+    let drained: Drain<'_, i32> = heap.drain();
+    goes_to_threads(&drained);
+    Ok(())
 }

@@ -39,8 +39,6 @@ impl<T: Ord, const D: usize> DaryHeap<T, D> {
     /// assert!(rt; heap.is_empty());
     /// ```
     pub fn drain<'a>(&mut self) -> Drain<'a, T>
-    where
-        T: Drop,
         ensures items { result ≡ self.old.items }
         ensures fits { length result < 2 ^ 64 }
         ensures runs { YieldsInOrder (YieldsFirst {A = T} (λ rest. rest)) (λ rest. rest) }
