@@ -32,7 +32,17 @@ impl<'a, T: Ord + Drop, const D: usize> Drop for DrainSorted<'a, T, D> {
 impl<T: Ord, const D: usize> DaryHeap<T, D> {
     ghost use Rattle.dary_heap.specs.DrainSorted.{drained_heap, drained_lender, KeepsHeapAlong};
 
-    /// Takes the items out in descending order.
+    /// Takes the items out in descending order. Equal items come in the order in which pops give them.
+    ///
+    /// Each item takes as many comparisons as its pop, and only when it is asked for. Once the iterator
+    /// is dropped, early or not, the heap is empty and keeps its capacity: what was not taken is popped
+    /// then and given up, with as many comparisons as those pops. It takes no memory.
+    ///
+    /// ```
+    /// let mut heap = TernaryHeap::from(vec![in alloc; 1, 2, 3, 4, 5]?);
+    /// assert_eq!(rt; heap.drain_sorted().next(), Some(5));
+    /// assert!(rt; heap.is_empty());
+    /// ```
     pub fn drain_sorted(&mut self) -> DrainSorted<'_, T, D>
     where
         T: Drop,

@@ -47,9 +47,8 @@ impl<T> IntoIter<T> {
         requires { (x y : T) → Contains self.now x → T.is_clone x y → y ≡ x }
         ensures { IfOk result (λ copy. copy ≡ self.now) }
     {
-        Ok(IntoIter {
-            rest: self.rest.clone()?,
-        })
+        let rest = self.rest.clone()?;
+        Ok(IntoIter { rest })
     }
 }
 
@@ -113,6 +112,7 @@ impl<T: Ord + Drop, const D: usize> IntoIterator for DaryHeap<T, D> {
         × YieldsInReverse (YieldsLast {A = T} (λ rest. rest)) (λ rest. rest) };
 
     fn into_iter(self) -> IntoIter<T> {
-        IntoIter::of(self.into_vec())
+        let items = self.into_vec();
+        IntoIter::of(items)
     }
 }

@@ -5,4 +5,4 @@ use Rattle.dary_heap.proofs.iter.owned.IntoIter.clone.Goals as goal
 pub returns : goal.returns
 returns g c =
     let asked = rw (← c.self.view_is) at c.requires in
-    same g.T.Clone.is_clone _ _ asked c.in_ok-clone.ensures.cases.0 ∙ c.self.view_is
+    same g.T.Clone.is_clone _ _ asked c.in_ok-rest.ensures.cases.0 ∙ c.self.view_is
