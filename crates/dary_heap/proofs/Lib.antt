@@ -15,6 +15,8 @@ pub mod Runs
 pub mod Serving
 pub mod Sinking
 pub mod Written
+pub mod Loans
+pub mod Lowering
 pub mod Tail
 pub mod Filtering
 pub mod Extending

@@ -8,7 +8,10 @@ pub mod DrainSorted
 pub mod Extending
 pub mod Filtering
 pub mod HeapOrder
+pub mod Lending
+pub mod Loan
 pub mod Machine
+pub mod PeekMut
 pub mod Popping
 pub mod Reading
 pub mod Run

@@ -18,12 +18,14 @@
 //!
 //! - [`sift`] moves items along the paths of the tree, for any judge of items, and counts comparisons;
 //! - [`heap`] has the heap;
+//! - [`peek_mut`] lends a heap's greatest item, to be read and written;
 //! - [`iter`] goes over the items of a heap, as they are stored or in descending order;
 //! - [`run`] carries lists of commands out, against the machine that says what a heap may answer.
 #![tactic(auto)]
 
 pub mod heap;
 pub mod iter;
+pub mod peek_mut;
 pub mod run;
 pub mod sift;
 
@@ -32,3 +34,4 @@ pub use heap::{
     TernaryHeap,
 };
 pub use iter::{Drain, DrainSorted, IntoIter, IntoIterSorted, Iter};
+pub use peek_mut::PeekMut;

@@ -27,6 +27,8 @@ mod joins;
 #[cfg(test)]
 mod judges;
 #[cfg(test)]
+mod loans;
+#[cfg(test)]
 mod noting;
 #[cfg(test)]
 mod queues;
@@ -34,6 +36,8 @@ mod queues;
 mod repairs;
 #[cfg(test)]
 mod rooms;
+#[cfg(test)]
+mod sharing;
 #[cfg(test)]
 mod shuffles;
 #[cfg(test)]

@@ -15,7 +15,7 @@ pub fn shuffled(alloc: Global, seed: u64) -> Result<Vec<u32>, AllocError> {
 }
 
 /// Whether no child of a place exceeds the item there.
-fn is_ordered(items: &[u32], arity: usize) -> bool {
+pub fn is_ordered(items: &[u32], arity: usize) -> bool {
     let mut children = items.iter().skip(1);
     for parent in items {
         for _ in 0..arity {

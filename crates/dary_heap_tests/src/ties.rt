@@ -72,6 +72,17 @@ pub fn heap_of<const D: usize>(
     Ok(DaryHeap::from(items))
 }
 
+/// The keys and tags of a heap's items, in the order of its slice.
+pub fn keys_and_tags<const D: usize>(
+    alloc: Global,
+    heap: &DaryHeap<Tagged, D>,
+) -> Result<Vec<(u32, u32)>, AllocError> {
+    heap.as_slice()
+        .iter()
+        .map(|item| (item.key, item.tag))
+        .collect(alloc)
+}
+
 /// Builds a heap of these keys and tags, and compares its slice.
 fn build<const D: usize>(
     rt: &impl Abort,
@@ -80,11 +91,7 @@ fn build<const D: usize>(
     after: &[(u32, u32)],
 ) -> Result<(), Fail> {
     let heap = heap_of::<D>(alloc, pairs)?;
-    let mut found = Vec::new(alloc);
-    for item in heap.as_slice() {
-        found.push((item.key, item.tag))?;
-    }
-    assert_eq!(rt; found.as_slice(), after);
+    assert_eq!(rt; keys_and_tags(alloc, &heap)?.as_slice(), after);
     Ok(())
 }
 

@@ -1,0 +1,37 @@
+use Rattle.std.proofs.Common.{rules, refl, ap, ◌≡◌, ◌∙◌, length, arith}
+use Rattle.dary_heap.specs.Contents.{Contents}
+use Rattle.dary_heap.proofs.Fronts.{ordered_state}
+use Rattle.dary_heap.proofs.Loans.{lone_uncounted, lone_unexceeded, none_exceeds, sunk_moved, sunk_unmoved}
+use Rattle.dary_heap.proofs.Written.{same_contents, written_back}
+use Rattle.dary_heap.proofs.peek_mut.methods.PeekMut+T+D.refresh.Goals as goal
+
+pub returns-then-not-self-clause-moved : goal.returns-then-not-self-clause-moved
+returns-then-not-self-clause-moved g c = (λ never. cc, λ over. absurd (none_exceeds g.row.D g.met.T.Ord.total _ (c.args.self.now.lent.whole (search rules)) over))
+
+pub returns-then-not-self-clause-greatest : goal.returns-then-not-self-clause-greatest
+returns-then-not-self-clause-greatest g c = ordered_state g.met.T.Ord.total g.row.D _ (c.args.self.now.lent.whole (search rules))
+
+pub returns-clause-moved : goal.returns-clause-moved
+returns-clause-moved g c =
+    let zs = c.sink_with-moved.new.items in
+    let is = c.as_mut_slice.ensures.value in
+    let lent = c.args.self.now.lent in
+    sunk_moved g.row.D c.args.self.now.items.items zs _ (rw is at c.sink_with-moved.ensures.moved) (rw is at c.sink_with-moved.ensures.unchanged) g.met.T.Ord.total ((rw is at c.sink_with-moved.ensures.ordered) lent.below_root)
+
+pub returns-clause-greatest : goal.returns-clause-greatest
+returns-clause-greatest g c =
+    let zs = c.sink_with-moved.new.items in
+    let long = c.args.self.now.items.ok.0 in
+    let all : length zs ≡ c.args.self.now.items.len = omega arith in
+    let is = c.as_mut_slice.ensures.value in
+    rw (written_back _ zs _ all) (ordered_state g.met.T.Ord.total g.row.D zs ((rw is at c.sink_with-moved.ensures.ordered) c.args.self.now.lent.below_root))
+
+pub returns-clause-alone : goal.returns-clause-alone
+returns-clause-alone g c = λ one.
+    let xs = c.args.self.now.items.items in
+    let zs = c.sink_with-moved.new.items in
+    let long = c.args.self.now.items.ok.0 in
+    let all : length zs ≡ c.args.self.now.items.len = omega arith in
+    let is = c.as_mut_slice.ensures.value in
+    let still = sunk_unmoved g.row.D xs zs _ (rw is at c.sink_with-moved.ensures.moved) (rw is at c.sink_with-moved.ensures.unchanged) (lone_unexceeded g.T.Ord.cmp xs one) in
+    same_contents _ _ (written_back _ zs _ all ∙ still) refl (lone_uncounted g.row.D (length xs) _ _ one (rw is at c.sink_with-moved.ensures.counted) ∙ ap (λ (it : Contents g.row.T.Denot). it.comparisons) c.heap.view_is)

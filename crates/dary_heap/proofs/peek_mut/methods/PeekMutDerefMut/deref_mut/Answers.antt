@@ -1,0 +1,12 @@
+use Rattle.std.proofs.Common.{refl, length}
+use Rattle.std.proofs.lemmas.Option.{slice_get_read}
+use Rattle.dary_heap.specs.Lending.{with_first-is}
+use Rattle.dary_heap.proofs.peek_mut.methods.PeekMutDerefMut.deref_mut.Goals as goal
+
+pub returns : goal.returns
+returns g c =
+    let loan = c.args.self.now in
+    let xs = loan.items.items in (
+      (refl, λ w. with_first-is g.row.D g.T.Ord g.T.PartialEq g.T.PartialOrd loan w _),
+      record { writes_back = tt; first = slice_get_read xs (length xs) 0 c.index_mut.result.now refl loan.lent.some c.index_mut.ensures.value },
+    )

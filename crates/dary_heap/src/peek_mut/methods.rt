@@ -1,0 +1,164 @@
+//! How a loan begins, what may be done with it, and how it ends by a pop.
+ghost use Rattle.std.specs.Prelude.{◌≡◌, ◌-◌, ◌<◌, ◌↔◌, [], ◌∷◌, length, slice_index_or, false, Some, IsSome, IfSome, IsTrue};
+ghost use Rattle.std.specs.Bool.{OnFalse};
+ghost use Rattle.std.specs.Borrow.{sem, RestsIfNone};
+ghost use Rattle.dary_heap.specs.Bag.{IsSameBag};
+ghost use Rattle.dary_heap.specs.Bounds.{RisesWithin, pop_bound, sink_bound};
+ghost use Rattle.dary_heap.specs.HeapOrder.{IsHeapOrdered};
+ghost use Rattle.dary_heap.specs.Loan.{IsExceeded};
+ghost use Rattle.dary_heap.specs.PeekMut.{loaned, is_written, lender, left_behind};
+ghost use Rattle.dary_heap.specs.State.{IsState, front};
+ghost use Rattle.dary_heap.specs.contracts.heap.DaryHeap.{the_row as heap_row};
+
+use super::PeekMut;
+use crate::heap::DaryHeap;
+use crate::sift::{ByOrd, pop_with, sink_with};
+use std::fmt;
+use std::mem;
+use std::ops::{Deref, DerefMut};
+
+impl<T: Ord, const D: usize> DaryHeap<T, D> {
+    /// The loan of a greatest item, or `None` exactly on an empty heap.
+    ///
+    /// It is the item that `peek` shows, and no other item exceeds it. What may be done with it stands at
+    /// [`PeekMut`]. It compares nothing.
+    pub fn peek_mut(&mut self) -> Option<PeekMut<'_, T, D>>
+        // At `None` the heap stays as it is.
+        ensures* unchanged { sem 𝓛 (RestsIfNone (heap_row T.row D.row T.Ord.own T.PartialEq T.PartialOrd.own) self.entry lender result (λ heap. heap ≡ self.old)) }
+        ensures variant { IsSome result ↔ (0 < length self.old.items) }
+        ensures loaned { IfSome result (λ loan. loaned loan ≡ self.old) }
+        ensures unwritten { IfSome result (λ loan. is_written loan ≡ false) }
+        ensures greatest { IfSome result (λ loan. IsState T.cmp (loaned loan).items) }
+        ensures ordered { IfSome result (λ loan. IsHeapOrdered T.cmp D (loaned loan).items) }
+
+        // The loan's end leaves what it has to this heap, which is empty until then.
+        ensures same_reference { IfSome result (λ loan. lender loan ≡ self.entry.ghost_name) }
+        ensures emptied { IfSome result (λ loan. (left_behind loan).items ≡ []) }
+        ensures unallocated { IfSome result (λ loan. (left_behind loan).capacity ≡ 0) }
+    {
+        if self.items.is_empty() {
+            return None;
+        }
+        let alloc = *self.items.allocator();
+        let items = mem::replace(&mut self.items, Vec::new(alloc));
+        Some(PeekMut {
+            heap: self,
+            items,
+            written: false,
+        })
+    }
+}
+
+impl<'a, T: Ord + Drop, const D: usize> PeekMut<'a, T, D> {
+    /// Takes the item on loan out of the heap, and ends the loan.
+    ///
+    /// It gives the value as it was last written, even where another item is strictly greater, and removes
+    /// that one only. It takes at most as many comparisons as a pop. The capacity stays.
+    ///
+    /// ```
+    /// let mut heap = BinaryHeap::from(vec![in alloc; 1, 5, 2]?);
+    /// if let Some(mut greatest) = heap.peek_mut() {
+    ///     *greatest = 0;
+    ///     assert_eq!(rt; PeekMut::pop(greatest), 0);
+    /// }
+    /// assert_eq!(rt; heap.as_slice(), [2, 1].as_slice());
+    /// ```
+    pub fn pop(this: PeekMut<'a, T, D>) -> T
+        ensures first { front (loaned this.entry).items ≡ Some result }
+        ensures bag { IsSameBag (loaned this.entry).items (result ∷ this.exit.0.now.items) }
+        ensures len { length this.exit.0.now.items ≡ length (loaned this.entry).items - 1 }
+        ensures ordered { IsHeapOrdered T.cmp D this.exit.0.now.items }
+        ensures counted { RisesWithin (loaned this.entry).comparisons this.exit.0.now.comparisons (pop_bound D (length (loaned this.entry).items)) }
+        ensures capacity { this.exit.0.now.capacity ≡ (loaned this.entry).capacity }
+
+        // `first` again, in the words of an index: with these a caller's proof also gets at a signed number.
+        ensures value { result ≡ slice_index_or (loaned this.entry).items 0 result }
+    {
+        let PeekMut {
+            heap,
+            items,
+            written: _,
+        } = this;
+        let mut items = items;
+        let item = pop_with::<T, ByOrd, D>(&mut items, &mut heap.judge).unwrap();
+        mem::swap(&mut heap.items, &mut items);
+        item
+    }
+
+    /// Lets a written item go down to its place, and answers whether it went: exactly where another item
+    /// is strictly greater than it. Afterwards the loan is of the item that is now the first, which no
+    /// other exceeds, and counts as unwritten.
+    ///
+    /// Where the loan is not written, or the item is the only one, it answers false and compares nothing.
+    /// Otherwise it takes at most as many comparisons as the drop of a written loan.
+    ///
+    /// ```
+    /// let mut heap = BinaryHeap::from(vec![in alloc; 1, 2, 3]?);
+    /// if let Some(mut greatest) = heap.peek_mut() {
+    ///     *greatest = 0;
+    ///     assert!(rt; greatest.refresh());
+    ///     assert_eq!(rt; *greatest, 2);
+    ///     *greatest = 42;
+    ///     assert!(rt; !greatest.refresh());
+    /// }
+    /// ```
+    pub fn refresh(&mut self) -> bool
+        ensures moved { IsTrue result ↔ IsExceeded T.cmp (loaned self.old).items }
+        ensures bag { IsSameBag (loaned self.old).items (loaned self.new).items }
+        ensures len { length (loaned self.new).items ≡ length (loaned self.old).items }
+        ensures greatest { IsState T.cmp (loaned self.new).items }
+        ensures ordered { IsHeapOrdered T.cmp D (loaned self.new).items }
+        ensures settled { is_written self.new ≡ false }
+        ensures counted { RisesWithin (loaned self.old).comparisons (loaned self.new).comparisons (sink_bound D (length (loaned self.old).items)) }
+        ensures capacity { (loaned self.new).capacity ≡ (loaned self.old).capacity }
+        ensures same_reference { lender self.new ≡ lender self.old }
+
+        // Where it answers false no item moves. Where nothing was written, or one item is alone, nothing
+        // is compared either.
+        ensures unmoved { OnFalse result ((loaned self.new).items ≡ (loaned self.old).items) }
+        ensures unwritten { is_written self.old ≡ false → loaned self.new ≡ loaned self.old }
+        ensures alone { length (loaned self.old).items ≡ 1 → loaned self.new ≡ loaned self.old }
+    {
+        if !self.written {
+            return false;
+        }
+        let heap = &mut *self.heap;
+        let moved = sink_with::<T, ByOrd, D>(self.items.as_mut_slice(), &mut heap.judge);
+        self.written = false;
+        moved
+    }
+}
+
+/// The item on loan: the heap's first at the start, and then what was written last.
+impl<T: Ord, const D: usize> Deref for PeekMut<'_, T, D> {
+    type Target = T;
+
+    ghost deref_gives = { λ loan item. front (loaned loan).items ≡ Some item };
+
+    fn deref(&self) -> &T {
+        &self.items[0]
+    }
+}
+
+/// The item on loan, to be written. From this call on the loan counts as written.
+impl<T: Ord, const D: usize> DerefMut for PeekMut<'_, T, D> {
+    ghost use Rattle.std.specs.Borrow.{sem};
+    ghost use Rattle.dary_heap.specs.Lending.{lends_first};
+
+    ghost deref_mut_gives = { λ loan item. front (loaned loan).items ≡ Some item };
+
+    fn deref_mut(&mut self) -> &mut T
+        ensures* writes_back { sem 𝓛 (lends_first T.row D.row T.Ord.own T.PartialEq T.PartialOrd.own self.entry result) }
+        ensures first { front (loaned self.old).items ≡ Some result.now }
+    {
+        self.written = true;
+        &mut self.items[0]
+    }
+}
+
+/// The item on loan in a pair of parentheses, as `PeekMut(5)`.
+impl<T: Ord + fmt::Debug, const D: usize> fmt::Debug for PeekMut<'_, T, D> {
+    fn fmt<W: fmt::Write>(&self, f: &mut fmt::Formatter<W>) -> fmt::Result {
+        f.debug_tuple("PeekMut").field(&self.items[0]).finish()
+    }
+}
