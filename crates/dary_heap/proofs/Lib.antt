@@ -21,6 +21,8 @@ pub mod Tail
 pub mod Filtering
 pub mod Extending
 pub mod ServingMany
+pub mod ServingDrains
+pub mod ServingLoan
 pub mod Fronts
 pub mod Cancelling
 pub mod States

@@ -15,7 +15,7 @@ use Rattle.dary_heap.specs.Run.{Runs}
 use Rattle.dary_heap.specs.State.{IsState, front}
 use Rattle.dary_heap.specs.TwoArities.{HasNoTies, IsSettled, IsUnrefused, RunsUnrefused, SameRepliesAtTwoArities}
 use Rattle.dary_heap.proofs.Cancelling.{IsPermutation-uncons}
-use Rattle.dary_heap.proofs.States.{Contains-cases, Contains-first, Contains-later, Step-state}
+use Rattle.dary_heap.proofs.States.{Contains-cases, Contains-first, Contains-later, HasGreater-same_bag, Step-state}
 
 -- the items of xs are among those values
 abbrev IsAmong : {X : Type 0} → List X → List X → Type 0
@@ -100,10 +100,6 @@ module _ {X P : Type 0} {cmp : X → X → Ordering} (answers : P → X → Bool
       let first = both.0 in
       cc
 
-  -- a strictly greater value in one bag is one in the other
-  HasGreater-same : (xs ys : List X) (m : X) → IsSameBag xs ys → HasGreater cmp xs m → HasGreater cmp ys m
-  HasGreater-same xs ys m same h = (h.0, Contains-permutation xs ys h.0 same h.1, h.2)
-
   -- what two loans of the same value hold, see and leave
   record LoansAlike (seen seen' : List (Seen X)) (last last' : X) (left left' : List X) : Type 0 where
     told : seen ≡ seen'
@@ -131,10 +127,10 @@ module _ {X P : Type 0} {cmp : X → X → Ordering} (answers : P → X → Bool
       let more = acted h.1.0 k.1.0 h.1.1 k.1.1 acts seen seen' last last' left left' next (left_alike (held ∷ rest) (held' ∷ rest') h.1.1 k.1.1 h.1.0 k.1.0 whole next h.1.3 k.1.3) (IsAmong-same values (held ∷ rest) (h.1.0 ∷ h.1.1) h.1.3 among) wrote h.1.4 k.1.4 in
       record { told = ap (λ s. Changed true ∷ s) more.told; held = more.held; rest = more.rest; among = more.among }
   acted held held' rest rest' (Refresh ∷ acts) (Changed true ∷ seen) (Changed false ∷ seen') last last' left left' e same among wrote h k =
-      absurd (k.0 (HasGreater-same rest rest' held' same (subst (HasGreater cmp rest) e h.0)))
+      absurd (k.0 (HasGreater-same_bag cmp rest rest' held' same (subst (HasGreater cmp rest) e h.0)))
   acted held held' rest rest' (Refresh ∷ acts) (Changed true ∷ seen) seen' last last' left left' e same among wrote h k = absurd k
   acted held held' rest rest' (Refresh ∷ acts) (Changed false ∷ seen) (Changed true ∷ seen') last last' left left' e same among wrote h k =
-      absurd (h.0 (HasGreater-same rest' rest held (IsPermutation-sym _ _ same) (subst (HasGreater cmp rest') (sym e) k.0)))
+      absurd (h.0 (HasGreater-same_bag cmp rest' rest held (IsPermutation-sym _ _ same) (subst (HasGreater cmp rest') (sym e) k.0)))
   acted held held' rest rest' (Refresh ∷ acts) (Changed false ∷ seen) (Changed false ∷ seen') last last' left left' e same among wrote h k =
       let more = acted held held' rest rest' acts seen seen' last last' left left' e same among wrote h.1 k.1 in
       record { told = ap (λ s. Changed false ∷ s) more.told; held = more.held; rest = more.rest; among = more.among }

@@ -7,11 +7,12 @@ use Rattle.std.proofs.lemmas.Bool.{cases_lt}
 use Rattle.std.proofs.lemmas.List.Elements.{Contains-append_left, Contains-append_right}
 use Rattle.std.proofs.lemmas.List.Sorted.{IsPermutation-sym, IsPermutation-to_front, IsPermutation-trans, Contains-permutation, length_permutation}
 use Rattle.std.specs.declared.cmp.Ordering.{Ordering}
+use Rattle.dary_heap.specs.Asking.{items_in}
 use Rattle.dary_heap.specs.Bounds.{RisesWithin, push_bound, pop_bound}
 use Rattle.dary_heap.specs.Contents.{Contents}
 use Rattle.dary_heap.specs.HeapOrder.{IsHeapOrdered}
-use Rattle.dary_heap.specs.Machine.{Push, Pop, Ask, Pushed, PushRefused, Popped, Asked}
-use Rattle.dary_heap.specs.Run.{Serves}
+use Rattle.dary_heap.specs.Machine.{Command, Reply, Push, Pop, Ask, Pushed, PushRefused, Popped, Asked, Step}
+use Rattle.dary_heap.specs.Run.{IsServed, Serves, room, sure_after}
 use Rattle.dary_heap.specs.State.{front, front_with}
 use Rattle.dary_heap.proofs.Fronts.{alone, ordered_state, same_state}
 
@@ -32,6 +33,17 @@ pub stays : (n bound : ℕ) → RisesWithin n n bound
 stays n bound = record { rises = omega arith; within = omega arith }
 
 module _ {X P : Type 0} {cmp : X → X → Ordering} {answers : P → X → Bool → P → Type 0} {D : ℕ} where
+  -- a step after which the items are those before
+  pub kept : (old new : Contents X) (command : Command X P) (reply : Reply X) → new.items ≡ old.items → new.comparisons ≡ old.comparisons → IsHeapOrdered cmp D new.items → Step cmp answers old.items command reply old.items → IsServed (room old) command reply → sure_after (room old) command reply ≤ room new → Serves cmp answers D old command reply new
+  kept old new command reply same uncounted ordered step served sure = record {
+    step = subst (Step cmp answers old.items command reply) (sym same) step;
+    charged = record { rises = omega (arith, uncounted); within = omega (arith, uncounted) };
+    served = served;
+    sure = sure;
+    ordered = ordered;
+    among = λ y in'. Contains-append_left old.items (items_in (command ∷ [])) y (subst (λ l. Contains l y) same in');
+  }
+
   pub pushed : (old new : Contents X) (x : X) → IsPermutation (x ∷ old.items) new.items → front new.items ≡ Some (front_with cmp x (front old.items)) → IsHeapOrdered cmp D new.items → RisesWithin old.comparisons new.comparisons (push_bound D (length old.items)) → old.capacity ≤ new.capacity → Serves cmp answers D old (Push x) Pushed new
   pushed old new x bag first ordered charged more = record {
     step = (bag, first);

@@ -5,7 +5,8 @@ use Rattle.std.specs.Ordering.{is_gt, ordering_reverse}
 use Rattle.std.specs.declared.cmp.Ordering.{Ordering}
 use Rattle.std.specs.declared.cmp.Ordering.TheVariants.{Less, Equal, Greater}
 use Rattle.std.proofs.lemmas.List.Elements.{Contains-append_right, Contains-append_cases}
-use Rattle.dary_heap.specs.Bag.{IsGreatest, IsGreatest-same_bag}
+use Rattle.std.proofs.lemmas.List.Sorted.{Contains-permutation}
+use Rattle.dary_heap.specs.Bag.{IsSameBag, IsGreatest, HasGreater, IsGreatest-same_bag}
 use Rattle.dary_heap.specs.Machine.{End, PutBack, TakeOut, Command, Reply, Push, Pop, PopIf, Ask, Len, Retain, Extend, Append, Reserve, Shrink, Clear, Drain, DrainSorted, Loan, Pushed, PushRefused, Popped, Asked, Size, Done, ExtendRefused, AppendRefused, Refused, Taken, Loaned, Ends, Step}
 use Rattle.dary_heap.proofs.Fronts.{alone}
 use Rattle.dary_heap.proofs.Order.{not_greater-self, not_greater-trans}
@@ -23,6 +24,10 @@ Contains-first x xs = (0, omega arith, refl)
 
 pub Contains-later : {X : Type 0} (x : X) (xs : List X) (y : X) → Contains xs y → Contains (x ∷ xs) y
 Contains-later x xs y h = Contains-append_right (x ∷ []) xs y h
+
+-- a strictly greater value in one listing of a bag is one in every other
+pub HasGreater-same_bag : {X : Type 0} (cmp : X → X → Ordering) (xs ys : List X) (m : X) → IsSameBag xs ys → HasGreater cmp xs m → HasGreater cmp ys m
+HasGreater-same_bag cmp xs ys m same h = (h.0, Contains-permutation xs ys h.0 same h.1, h.2)
 
 pub IsState-empty : {X : Type 0} {cmp : X → X → Ordering} (new : List X) → new ≡ [] → IsState cmp new
 IsState-empty {cmp = cmp} new none = subst (IsState cmp) (sym none) (record { greatest = λ f e. cc })

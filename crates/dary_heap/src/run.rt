@@ -13,7 +13,36 @@ ghost use Rattle.dary_heap.specs.Run.{Runs, Serves};
 ghost use Rattle.dary_heap.specs.TwoArities.{SameRepliesAtTwoArities};
 
 use crate::heap::DaryHeap;
+use crate::peek_mut::PeekMut;
 use std::alloc::Global;
+use std::mem;
+
+/// What is done with the loan of a greatest item.
+#[derive(Debug, Drop)]
+pub enum Act<T> {
+    /// Writes an item in the place of the one on loan.
+    Write(T),
+    /// Refreshes the loan, which is then of a greatest item again.
+    Refresh,
+}
+
+/// How the loan of a greatest item ends.
+#[derive(Debug, Drop)]
+pub enum End {
+    /// The item on loan goes back to the heap.
+    Drop,
+    /// The item on loan is taken out.
+    Pop,
+}
+
+/// What an act on a loan shows.
+#[derive(Debug, Drop)]
+pub enum Seen<T> {
+    /// The item that was on loan before a write.
+    Old(T),
+    /// Whether a refresh found that another item was strictly greater.
+    Changed(bool),
+}
 
 /// What a heap is asked to do.
 #[derive(Drop)]
@@ -34,12 +63,22 @@ pub enum Command<T: Ord, const D: usize, P> {
     Extend(Vec<T>),
     /// Adds the items of another heap.
     Append(DaryHeap<T, D>),
+    /// Makes room for as many more items.
+    Reserve(usize),
+    /// Gives back the room that is beyond both the length and this capacity.
+    Shrink(usize),
     /// Gives up all items.
     Clear,
+    /// Takes all items out, and gives the first so many of them in the order of `as_slice`.
+    Drain(usize),
+    /// Pops all items, and gives the first so many of them.
+    DrainSorted(usize),
+    /// Lends a greatest item, the one that a pop would take, for these acts and this end.
+    Loan(Vec<Act<T>>, End),
 }
 
 /// What became of a command.
-#[derive(Drop)]
+#[derive(Debug, Drop)]
 pub enum Reply<T: Ord, const D: usize> {
     /// The item was added.
     Pushed,
@@ -57,6 +96,13 @@ pub enum Reply<T: Ord, const D: usize> {
     ExtendRefused,
     /// There was no memory for the other heap's items, which comes back as it was.
     AppendRefused(DaryHeap<T, D>),
+    /// There was no memory for it, and the heap is as it was.
+    Refused,
+    /// The items that were taken out and asked for.
+    Taken(Vec<T>),
+    /// What the acts on the loan showed, in their order, and the item that was taken out at its end; if
+    /// there was an item.
+    Loaned(Option<(Vec<Seen<T>>, Option<T>)>),
 }
 
 /// Carries the commands out, one after another, and gives one reply to each, in order.
@@ -65,14 +111,19 @@ pub enum Reply<T: Ord, const D: usize> {
 /// hold.
 ///
 /// The replies and the items are a run of the bag machine. Its front is the first item of `as_slice`, at
-/// the start and at the end. Of the pushes, as many as there is room for at the start are not refused,
-/// where no more than pushes, pops, questions and counts come before them; and where nothing else comes
-/// at all, there is room for the rest of them afterwards.
+/// the start and at the end. Of the pushes, as many as there is room for at the start, or as a granted
+/// reserve asked for, are not refused, where no more than pushes, pops, questions and counts come before
+/// them; and where nothing else comes at all, there is room for the rest of them afterwards.
+///
+/// A drain and a loan reserve room for what they answer before they begin. Where that is refused the
+/// heap is as it was; a drain or a loan of an empty heap, a drain of no items and a loan without acts are
+/// never refused.
 ///
 /// The heap takes at most the sum of the charges of the steps, in comparisons: for a push the depth of
 /// the new place, for a pop the arity times the depth of the last place that remains, for an extend the
 /// repair of as many items as came in, for an append that of as many as the shorter heap had, for a
-/// retain that of all that are left, and for the others none.
+/// retain that of all that are left, for a drain in descending order as many pops as there are items,
+/// for a loan and for each refresh in it one way down from the first place, and for the others none.
 ///
 /// Room for all replies is reserved first; no command needs none. Where that is refused, and only then,
 /// the commands come back in their order, and the heap is as it was.
@@ -98,7 +149,7 @@ pub fn run<T: Ord + Drop, const D: usize, P: FnMut(&T) -> bool>(
         return Err(commands);
     };
     for command in commands {
-        replies.push_reserved(serve(heap, command));
+        replies.push_reserved(serve(alloc, heap, command));
     }
     Ok(replies)
 }
@@ -117,6 +168,7 @@ pub fn two_arities<T: Ord, P: FnMut(&T) -> bool>()
 
 /// Carries one command out.
 fn serve<T: Ord + Drop, const D: usize, P: FnMut(&T) -> bool>(
+    alloc: Global,
     heap: &mut DaryHeap<T, D>,
     command: Command<T, D, P>,
 ) -> Reply<T, D>
@@ -132,7 +184,12 @@ fn serve<T: Ord + Drop, const D: usize, P: FnMut(&T) -> bool>(
         Command::Retain(predicate) => retain(heap, predicate),
         Command::Extend(items) => extend::<T, D, P>(heap, items),
         Command::Append(other) => append::<T, D, P>(heap, other),
+        Command::Reserve(additional) => reserve::<T, D, P>(heap, additional),
+        Command::Shrink(capacity) => shrink::<T, D, P>(heap, capacity),
         Command::Clear => clear::<T, D, P>(heap),
+        Command::Drain(count) => drain::<T, D, P>(alloc, heap, count),
+        Command::DrainSorted(count) => drain_sorted::<T, D, P>(alloc, heap, count),
+        Command::Loan(acts, end) => loan::<T, D, P>(alloc, heap, acts, end),
     }
 }
 
@@ -216,6 +273,30 @@ fn append<T: Ord + Drop, const D: usize, P: FnMut(&T) -> bool>(
     }
 }
 
+fn reserve<T: Ord, const D: usize, P: FnMut(&T) -> bool>(
+    heap: &mut DaryHeap<T, D>,
+    additional: usize,
+) -> Reply<T, D>
+    ensures { Serves T.cmp (CalledAt P.FnMut) D heap.old (machine.Reserve additional) (read.reply result) heap.new }
+{
+    match heap.reserve(additional) {
+        Ok(()) => Reply::Done,
+        Err(_) => Reply::Refused,
+    }
+}
+
+fn shrink<T: Ord, const D: usize, P: FnMut(&T) -> bool>(
+    heap: &mut DaryHeap<T, D>,
+    capacity: usize,
+) -> Reply<T, D>
+    ensures { Serves T.cmp (CalledAt P.FnMut) D heap.old (machine.Shrink capacity) (read.reply result) heap.new }
+{
+    match heap.shrink_to(capacity) {
+        Ok(()) => Reply::Done,
+        Err(_) => Reply::Refused,
+    }
+}
+
 fn clear<T: Ord + Drop, const D: usize, P: FnMut(&T) -> bool>(
     heap: &mut DaryHeap<T, D>,
 ) -> Reply<T, D>
@@ -223,4 +304,71 @@ fn clear<T: Ord + Drop, const D: usize, P: FnMut(&T) -> bool>(
 {
     heap.clear();
     Reply::Done
+}
+
+fn drain<T: Ord + Drop, const D: usize, P: FnMut(&T) -> bool>(
+    alloc: Global,
+    heap: &mut DaryHeap<T, D>,
+    count: usize,
+) -> Reply<T, D>
+    ensures { Serves T.cmp (CalledAt P.FnMut) D heap.old (machine.Drain count) (read.reply result) heap.new }
+{
+    let count = count.min(heap.as_slice().len());
+    let Ok(mut taken) = Vec::with_capacity(alloc, count) else {
+        return Reply::Refused;
+    };
+    let mut items = heap.drain();
+    for _ in 0..count {
+        taken.push_reserved(items.next().unwrap());
+    }
+    Reply::Taken(taken)
+}
+
+fn drain_sorted<T: Ord + Drop, const D: usize, P: FnMut(&T) -> bool>(
+    alloc: Global,
+    heap: &mut DaryHeap<T, D>,
+    count: usize,
+) -> Reply<T, D>
+    ensures { Serves T.cmp (CalledAt P.FnMut) D heap.old (machine.DrainSorted count) (read.reply result) heap.new }
+{
+    let count = count.min(heap.as_slice().len());
+    let Ok(mut taken) = Vec::with_capacity(alloc, count) else {
+        return Reply::Refused;
+    };
+    let mut items = heap.drain_sorted();
+    for _ in 0..count {
+        taken.push_reserved(items.next().unwrap());
+    }
+    Reply::Taken(taken)
+}
+
+fn loan<T: Ord + Drop, const D: usize, P: FnMut(&T) -> bool>(
+    alloc: Global,
+    heap: &mut DaryHeap<T, D>,
+    acts: Vec<Act<T>>,
+    end: End,
+) -> Reply<T, D>
+    ensures { Serves T.cmp (CalledAt P.FnMut) D heap.old (machine.Loan (read.acts acts.items) (read.ending end)) (read.reply result) heap.new }
+{
+    if heap.as_slice().is_empty() {
+        return Reply::Loaned(None);
+    }
+    let Ok(mut seen) = Vec::with_capacity(alloc, acts.len()) else {
+        return Reply::Refused;
+    };
+    let mut loan = heap.peek_mut().unwrap();
+    for act in acts {
+        seen.push_reserved(match act {
+            Act::Write(item) => Seen::Old(mem::replace(&mut *loan, item)),
+            Act::Refresh => Seen::Changed(loan.refresh()),
+        });
+    }
+    let popped = match end {
+        End::Drop => {
+            drop(loan);
+            None
+        }
+        End::Pop => Some(PeekMut::pop(loan)),
+    };
+    Reply::Loaned(Some((seen, popped)))
 }

@@ -3,7 +3,7 @@ ghost use Rattle.std.specs.Prelude.{◌/◌};
 
 use crate::ties::Tagged;
 use dary_heap::heap::DaryHeap;
-use dary_heap::run::{Command, Reply, run};
+use dary_heap::run::{Act, Command, End, Reply, Seen, run};
 use rand::{Rng, SeedableRng};
 use rand_pcg::Pcg32;
 use std::alloc::{AllocError, Global};
@@ -22,21 +22,31 @@ pub enum Kind {
     Retain,
     Extend,
     Append,
+    Reserve,
+    Shrink,
     Clear,
+    Drain,
+    DrainSorted,
+    Loan,
 }
 
 /// Draws a kind of command and its number.
 pub fn draw(rng: &mut Pcg32) -> (Kind, u32) {
-    let kind = match rng.next_u32() % 32 {
-        0..=9 => Kind::Push,
-        10..=14 => Kind::Pop,
-        15..=16 => Kind::PopIf,
-        17..=18 => Kind::Ask,
-        19..=20 => Kind::Len,
-        21..=22 => Kind::Retain,
-        23..=26 => Kind::Extend,
-        27..=30 => Kind::Append,
-        _ => Kind::Clear,
+    let kind = match rng.next_u32() % 48 {
+        0..=13 => Kind::Push,
+        14..=19 => Kind::Pop,
+        20..=21 => Kind::PopIf,
+        22..=23 => Kind::Ask,
+        24..=25 => Kind::Len,
+        26..=27 => Kind::Retain,
+        28..=31 => Kind::Extend,
+        32..=35 => Kind::Append,
+        36 => Kind::Reserve,
+        37 => Kind::Shrink,
+        38 => Kind::Clear,
+        39 => Kind::Drain,
+        40 => Kind::DrainSorted,
+        _ => Kind::Loan,
     };
     (kind, rng.next_u32() % 64)
 }
@@ -69,6 +79,28 @@ fn many_items(alloc: Global, number: u32, ties: bool) -> Result<Vec<Tagged>, All
     numbers.map(|number| item(number, ties)).collect(alloc)
 }
 
+/// How many items a drain of a number asks for.
+fn wanted(number: u32) -> usize {
+    number as usize / 8
+}
+
+/// The acts on a loan of a number: up to five, which write or refresh as its bits say.
+fn acts(alloc: Global, number: u32, ties: bool) -> Result<Vec<Act<Tagged>>, AllocError> {
+    let writes = |by: u32| (number >> by) & 1 == 1;
+    (0..number % 6)
+        .map(|by| if writes(by) {
+            Act::Write(item(number ^ by, ties))
+        } else {
+            Act::Refresh
+        })
+        .collect(alloc)
+}
+
+/// How a loan of a number ends.
+fn end(number: u32) -> End {
+    if number < 32 { End::Drop } else { End::Pop }
+}
+
 /// The command of this kind and number, with the predicate that it may ask.
 pub fn command<const D: usize, P: FnMut(&Tagged) -> bool + Drop>(
     alloc: Global,
@@ -86,7 +118,12 @@ pub fn command<const D: usize, P: FnMut(&Tagged) -> bool + Drop>(
         Kind::Retain => Command::Retain(predicate),
         Kind::Extend => Command::Extend(many_items(alloc, number, ties)?),
         Kind::Append => Command::Append(DaryHeap::from(many_items(alloc, number, ties)?)),
+        Kind::Reserve => Command::Reserve(number as usize),
+        Kind::Shrink => Command::Shrink(number as usize),
         Kind::Clear => Command::Clear,
+        Kind::Drain => Command::Drain(wanted(number)),
+        Kind::DrainSorted => Command::DrainSorted(wanted(number)),
+        Kind::Loan => Command::Loan(acts(alloc, number, ties)?, end(number)),
     })
 }
 
@@ -141,14 +178,19 @@ impl Bag {
         Ok(())
     }
 
-    /// Whether a pop may give this. It is taken out.
-    fn pops(&mut self, item: Option<&Tagged>) -> bool {
-        let Some(item) = item else {
-            return self.items.is_empty();
-        };
-        let is_front = self.shows(item.tag) && self.take(item.tag);
+    /// Whether this may be the front. It is taken out.
+    fn gives(&mut self, item: u32) -> bool {
+        let is_front = self.shows(item) && self.take(item);
         self.front = None;
         is_front
+    }
+
+    /// Whether a pop may give this. It is taken out.
+    fn pops(&mut self, item: Option<&Tagged>) -> bool {
+        match item {
+            Some(item) => self.gives(item.tag),
+            None => self.items.is_empty(),
+        }
     }
 
     /// Whether this may be the first item that a predicate was asked about.
@@ -167,6 +209,93 @@ impl Bag {
         if self.items.len() < len {
             self.front = None;
         }
+    }
+
+    /// Whether a drain may take these. The bag is empty then.
+    fn drains(&mut self, number: u32, taken: &[Tagged]) -> bool {
+        let is_whole = taken.len() == wanted(number).min(self.items.len());
+        let begins_with_the_front = match taken {
+            [first, ..] => self.shows(first.tag),
+            [] => true,
+        };
+        let are_there = taken.iter().all(|item| self.take(item.tag));
+        self.retain(0);
+        is_whole && begins_with_the_front && are_there
+    }
+
+    /// Whether pops may take these, one after another. The bag is empty then.
+    fn drains_sorted(&mut self, number: u32, taken: &[Tagged]) -> bool {
+        let is_whole = taken.len() == wanted(number).min(self.items.len());
+        let are_popped = taken.iter().all(|item| self.pops(Some(item)));
+        self.retain(0);
+        is_whole && are_popped
+    }
+
+    /// Whether this item may be on loan, where `held` is on loan if it is known. If not, it is still
+    /// among the items, and is taken out.
+    fn holds(&mut self, held: Option<u32>, item: u32) -> bool {
+        match held {
+            Some(held) => held == item,
+            None => self.gives(item),
+        }
+    }
+
+    /// Whether an item is strictly greater than the one on loan. Where that isn't known it is a greatest.
+    fn exceeds(&self, held: Option<u32>) -> bool {
+        match held {
+            Some(held) => self.greatest() > Some(part(held, self.ties)),
+            None => false,
+        }
+    }
+
+    /// Whether an act may show this. What is on loan afterwards is `held`, if it is known.
+    fn sees(
+        &mut self,
+        held: &mut Option<u32>,
+        act: &Act<Tagged>,
+        sight: &Seen<Tagged>,
+    ) -> Result<bool, AllocError> {
+        match (act, sight) {
+            (Act::Write(item), Seen::Old(old)) => {
+                let is_held = self.holds(*held, old.tag);
+                *held = Some(item.tag);
+                Ok(is_held)
+            }
+            (Act::Refresh, Seen::Changed(is_exceeded)) => {
+                let is_right = *is_exceeded == self.exceeds(*held);
+                if *is_exceeded {
+                    self.items.extend(held.take())?;
+                }
+                Ok(is_right)
+            }
+            _ => Ok(false),
+        }
+    }
+
+    /// Whether a loan may show this and end with this.
+    fn lends(
+        &mut self,
+        number: u32,
+        seen: &[Seen<Tagged>],
+        popped: Option<&Tagged>,
+    ) -> Result<bool, AllocError> {
+        let acts = acts(*self.items.allocator(), number, self.ties)?;
+        let mut is_right = seen.len() == acts.len() && !self.items.is_empty();
+        let mut held = self.front.take();
+        if let Some(item) = held {
+            is_right &= self.take(item);
+        }
+        for (act, sight) in acts.iter().zip(seen) {
+            is_right &= self.sees(&mut held, act, sight)?;
+        }
+        if let Some(item) = popped {
+            return Ok(is_right && number >= 32 && self.holds(held, item.tag));
+        }
+        if !self.exceeds(held) {
+            self.front = held;
+        }
+        self.items.extend(held)?;
+        Ok(is_right && number < 32)
     }
 
     /// Adds many items.
@@ -204,7 +333,14 @@ fn replies<const D: usize>(
             return Ok(is_right);
         }
         (Kind::Extend | Kind::Append, Reply::Done) => bag.extend(many(alloc, number)?)?,
+        (Kind::Reserve | Kind::Shrink, Reply::Done) => {}
         (Kind::Clear, Reply::Done) => bag.retain(0),
+        (Kind::Drain, Reply::Taken(items)) => return Ok(bag.drains(number, items)),
+        (Kind::DrainSorted, Reply::Taken(items)) => return Ok(bag.drains_sorted(number, items)),
+        (Kind::Loan, Reply::Loaned(None)) => return Ok(bag.items.is_empty()),
+        (Kind::Loan, Reply::Loaned(Some((seen, popped)))) => {
+            return bag.lends(number, seen, popped.as_ref());
+        }
         _ => return Ok(false),
     }
     Ok(true)

@@ -15,7 +15,7 @@ use std::process::Abort;
 use std::test::Fail;
 
 /// A number that notes each call of its `cmp` in a cell.
-#[derive(Drop)]
+#[derive(Clone, Copy, Drop)]
 pub struct Noting<'a> {
     pub key: u32,
     pub calls: &'a Cell<u64>,
@@ -77,7 +77,7 @@ pub fn keys(alloc: Global, items: &[Noting<'_>]) -> Result<Vec<u32>, AllocError>
 }
 
 /// Pushes onto a heap of such items, and onto a vector with a judge that counts.
-fn push_onto_both<'a, const D: usize>(
+pub fn push_onto_both<'a, const D: usize>(
     rt: &impl Abort,
     heap: &mut DaryHeap<Noting<'a>, D>,
     twin: &mut Vec<u32>,
@@ -92,7 +92,7 @@ fn push_onto_both<'a, const D: usize>(
 }
 
 /// The looks at a heap compare nothing.
-fn looks_as<'a, const D: usize>(
+pub fn looks_as<'a, const D: usize>(
     rt: &impl Abort,
     heap: &DaryHeap<Noting<'a>, D>,
     twin: &[u32],
@@ -106,7 +106,7 @@ fn looks_as<'a, const D: usize>(
 }
 
 /// Pops from both.
-fn pop_from_both<'a, const D: usize>(
+pub fn pop_from_both<'a, const D: usize>(
     rt: &impl Abort,
     heap: &mut DaryHeap<Noting<'a>, D>,
     twin: &mut Vec<u32>,

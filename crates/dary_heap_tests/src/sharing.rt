@@ -58,14 +58,28 @@ impl Ord for Sharing {
     }
 }
 
+/// Items of these keys, which all share one cell.
+pub fn sharing_items(
+    alloc: Global,
+    keys: &[u32],
+    calls: &Rc<Cell<u64>>,
+) -> Result<Vec<Sharing>, AllocError> {
+    let mut items = Vec::with_capacity(alloc, keys.len())?;
+    for key in keys {
+        let calls = calls.clone()?;
+        items.push(Sharing { key: *key, calls })?;
+    }
+    Ok(items)
+}
+
+/// The keys of such items, in their order.
+pub fn keys(alloc: Global, items: &[Sharing]) -> Result<Vec<u32>, AllocError> {
+    items.iter().map(|item| item.key).collect(alloc)
+}
+
 /// A heap of the slice `[3, 2, 1]` of such items.
 fn three_items(alloc: Global, calls: &Rc<Cell<u64>>) -> Result<BinaryHeap<Sharing>, AllocError> {
-    let mut items = Vec::with_capacity(alloc, 3)?;
-    for key in [3, 2, 1] {
-        let calls = calls.clone()?;
-        items.push(Sharing { key, calls })?;
-    }
-    Ok(BinaryHeap::from(items))
+    Ok(BinaryHeap::from(sharing_items(alloc, &[3, 2, 1], calls)?))
 }
 
 #[test]

@@ -101,10 +101,13 @@ fn comes_as_pops<const D: usize>(rt: &impl Abort, alloc: Global, keys: &[u32]) -
     let calls = Cell::new(0);
     let mut twin = keys.to_vec(alloc)?;
     build_with::<u32, Tally, D>(&mut twin, &mut Tally::new());
-    let mut given = DaryHeap::<_, D>::from(noting_items(alloc, keys, &calls)?).into_iter_sorted();
+    let given = DaryHeap::<_, D>::from(noting_items(alloc, keys, &calls)?);
     let mut heap = DaryHeap::<_, D>::from(noting_items(alloc, keys, &calls)?);
-    let mut drained = heap.drain_sorted();
     calls.set(0);
+    let mut given = given.into_iter_sorted();
+    let mut drained = heap.drain_sorted();
+    assert_eq!(rt; given.size_hint(), drained.size_hint());
+    assert_eq!(rt; calls.get(), 0, "before the first of {keys:?}");
     // Half are taken, and the rest of the drain is given up.
     for _ in 0..keys.len() / 2 {
         let mut judge = Tally::new();

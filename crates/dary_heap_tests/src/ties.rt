@@ -6,14 +6,14 @@ ghost use Rattle.std.specs.Ordering.{nat_cmp, on, as_partial_cmp};
 
 use dary_heap::BinaryHeap;
 use dary_heap::heap::DaryHeap;
-use dary_heap::run::{Command, Reply, run};
+use dary_heap::run::{Command, End, run};
 use std::alloc::{AllocError, Global};
 use std::cmp::Ordering;
 use std::process::Abort;
 use std::test::Fail;
 
 /// A number with a tag. Only the number is compared.
-#[derive(Drop)]
+#[derive(Debug, Drop)]
 pub struct Tagged {
     pub key: u32,
     pub tag: u32,
@@ -119,42 +119,53 @@ fn equal_items_come_out_one_by_one(rt: HostRuntime) -> Result<(), Fail> {
     Ok(())
 }
 
-/// Pushes two items onto a new heap, asks about the tag 1, and pops.
+/// Pushes two items onto a new heap, asks about the tag 1, and takes an item out, by a loan or a pop.
 #[tactic(auto, using(dary_heap::proofs::Callable::all_callable))]
-fn ask_and_pop(
+fn ask_and_take(
     alloc: Global,
     first: Tagged,
     second: Tagged,
-) -> Result<(Option<bool>, Option<u32>), Fail> {
-    let mut heap = BinaryHeap::new(alloc);
+    by_loan: bool,
+) -> Result<String, Fail> {
+    let last = if by_loan {
+        Command::Loan(Vec::new(alloc), End::Pop)
+    } else {
+        Command::Pop
+    };
     let commands = vec![in alloc;
         Command::Push(first),
         Command::Push(second),
         Command::Ask(|item: &Tagged| item.tag == 1),
-        Command::Pop,
+        last,
     ]?;
-    let Ok(replies) = run(alloc, &mut heap, commands) else {
-        return Err(Fail::from("no room for the replies"));
-    };
-    match replies.as_slice() {
-        [
-            Reply::Pushed,
-            Reply::Pushed,
-            Reply::Asked(answer),
-            Reply::Popped(item),
-        ] => Ok((*answer, item.as_ref().map(|item| item.tag))),
-        _ => Err(Fail::from("other replies")),
+    let mut heap = BinaryHeap::new(alloc);
+    match run(alloc, &mut heap, commands) {
+        Ok(replies) => Ok(format!(in alloc; "{replies:?}")?),
+        Err(_) => Err(Fail::from("no room for the replies")),
     }
 }
 
 #[test]
-fn a_question_is_about_the_item_that_is_popped(rt: HostRuntime) -> Result<(), Fail> {
+fn a_question_is_about_the_item_that_is_taken_out(rt: HostRuntime) -> Result<(), Fail> {
     let alloc = rt.alloc();
     // The second is equal, and stays behind the first.
-    let given = ask_and_pop(alloc, Tagged { key: 1, tag: 1 }, Tagged { key: 1, tag: 2 })?;
-    assert_eq!(rt; given, (Some(true), Some(1)));
+    let given = ask_and_take(
+        alloc,
+        Tagged { key: 1, tag: 1 },
+        Tagged { key: 1, tag: 2 },
+        true,
+    )?;
+    let wanted =
+        "[Pushed, Pushed, Asked(Some(true)), Loaned(Some(([], Some(Tagged { key: 1, tag: 1 }))))]";
+    assert_eq!(rt; given.as_str(), wanted);
     // The second is greater, and comes before it.
-    let given = ask_and_pop(alloc, Tagged { key: 1, tag: 1 }, Tagged { key: 2, tag: 3 })?;
-    assert_eq!(rt; given, (Some(false), Some(3)));
+    let given = ask_and_take(
+        alloc,
+        Tagged { key: 1, tag: 1 },
+        Tagged { key: 2, tag: 3 },
+        false,
+    )?;
+    let wanted = "[Pushed, Pushed, Asked(Some(false)), Popped(Some(Tagged { key: 2, tag: 3 }))]";
+    assert_eq!(rt; given.as_str(), wanted);
     Ok(())
 }

@@ -1,5 +1,9 @@
-//! Calls that bring many items in or take them out, beside the same repair of a vector's tail.
-use crate::noting::{Noting, keys, noting_items};
+//! Calls on a heap, beside the same sifts of a vector: both compare equally often.
+mod builds;
+mod loans;
+mod uncompared;
+
+use crate::noting::{Noting, keys, looks_as, noting_items, pop_from_both, push_onto_both};
 use crate::shuffles::shuffled;
 use dary_heap::heap::DaryHeap;
 use dary_heap::sift::{Tally, build_with, mend_with, pop_with};
@@ -41,9 +45,23 @@ fn built<'a, const D: usize>(
     build_with::<u32, Tally, D>(&mut twin, &mut judge);
     let items = noting_items(alloc, items, calls)?;
     let heap = DaryHeap::<_, D>::from(items);
-    assert_eq!(rt; calls.replace(0), judge.made(), "{twin:?}");
-    assert_eq!(rt; keys(alloc, heap.as_slice())?, twin);
+    assert_eq!(rt; calls.replace(0), judge.made(), "{twin:?} built");
+    assert_eq!(rt; keys(alloc, heap.as_slice())?, twin, "{twin:?} built");
     Ok((heap, twin))
+}
+
+/// Pushes a less, a middle and a greater key, and pops.
+fn push_and_pop<const D: usize>(rt: &impl Abort, alloc: Global, items: &[u32]) -> Result<(), Fail> {
+    let calls = Cell::new(0);
+    for key in [0, 500, 1000] {
+        let (mut heap, mut twin) = built::<D>(rt, alloc, items, &calls)?;
+        push_onto_both(rt, &mut heap, &mut twin, &calls, key)?;
+    }
+    let (mut heap, mut twin) = built::<D>(rt, alloc, items, &calls)?;
+    looks_as(rt, &heap, &twin, &calls);
+    pop_from_both(rt, &mut heap, &mut twin, &calls);
+    assert_eq!(rt; keys(alloc, heap.as_slice())?, twin, "{twin:?} left");
+    Ok(())
 }
 
 fn extend<const D: usize>(
@@ -55,6 +73,21 @@ fn extend<const D: usize>(
     let calls = Cell::new(0);
     let (mut heap, mut twin) = built::<D>(rt, alloc, items, &calls)?;
     heap.extend(noting_items(alloc, others, &calls)?)?;
+    let start = twin.len();
+    twin.extend_from_slice(others)?;
+    did_mend(rt, &heap, &calls, twin, start)
+}
+
+fn extend_by_references<const D: usize>(
+    rt: &impl Abort,
+    alloc: Global,
+    items: &[u32],
+    others: &[u32],
+) -> Result<(), Fail> {
+    let calls = Cell::new(0);
+    let (mut heap, mut twin) = built::<D>(rt, alloc, items, &calls)?;
+    let more = noting_items(alloc, others, &calls)?;
+    heap.extend(more.iter())?;
     let start = twin.len();
     twin.extend_from_slice(others)?;
     did_mend(rt, &heap, &calls, twin, start)
@@ -120,18 +153,20 @@ fn each_size<const D: usize>(rt: &impl Abort, alloc: Global) -> Result<(), Fail>
         for more in [0, 1, size / 2, size, size + 1] {
             let others = others.split_at(others.len().min(more)).0;
             extend::<D>(rt, alloc, items, others)?;
+            extend_by_references::<D>(rt, alloc, items, others)?;
             append::<D>(rt, alloc, items, others)?;
         }
         for bound in [0, 5, 9, 10] {
             retain::<D>(rt, alloc, items, bound)?;
         }
+        push_and_pop::<D>(rt, alloc, items)?;
         pop_if::<D>(rt, alloc, items)?;
     }
     Ok(())
 }
 
 #[test]
-fn many_items_are_compared_as_in_a_repair_of_a_tail(rt: HostRuntime) -> Result<(), Fail> {
+fn each_call_compares_as_the_same_sift_of_a_vector(rt: HostRuntime) -> Result<(), Fail> {
     each_size::<1>(&rt, rt.alloc())?;
     each_size::<2>(&rt, rt.alloc())?;
     each_size::<3>(&rt, rt.alloc())?;

@@ -2,39 +2,19 @@
 use crate::bags::{Kind, command, draw};
 use crate::ties::Tagged;
 use dary_heap::heap::DaryHeap;
-use dary_heap::run::{Reply, run, two_arities};
+use dary_heap::run::{run, two_arities};
 use rand::SeedableRng;
 use rand_pcg::Pcg32;
 use std::alloc::{AllocError, Global};
 use std::process::Abort;
 use std::test::Fail;
 
-/// What a reply says, whatever the arity.
-#[derive(Clone, Copy, Debug, PartialEq)]
-enum Told {
-    Pushed,
-    Popped(Option<u32>),
-    Len(usize),
-    Done,
-    Other,
-}
-
-fn says<const D: usize>(reply: &Reply<Tagged, D>) -> Told {
-    match reply {
-        Reply::Pushed => Told::Pushed,
-        Reply::Popped(item) => Told::Popped(item.as_ref().map(|item| item.tag)),
-        Reply::Len(len) => Told::Len(*len),
-        Reply::Done => Told::Done,
-        _ => Told::Other,
-    }
-}
-
-/// What a new heap replies, and then its items in ascending order.
+/// What a new heap replies, as a text, and then its items in ascending order.
 #[tactic(auto, using(dary_heap::proofs::Callable::all_callable))]
 fn told_by<const D: usize>(
     alloc: Global,
     drawn: &[(Kind, u32)],
-) -> Result<(Vec<Told>, Vec<u32>), Fail> {
+) -> Result<(String, Vec<u32>), Fail> {
     let mut commands = Vec::with_capacity(alloc, drawn.len())?;
     for (kind, number) in drawn {
         commands
@@ -47,7 +27,7 @@ fn told_by<const D: usize>(
     };
     let mut left: Vec<u32> = heap.as_slice().iter().map(|item| item.tag).collect(alloc)?;
     left.sort()?;
-    Ok((given.iter().map(says).collect(alloc)?, left))
+    Ok((format!(in alloc; "{given:?}")?, left))
 }
 
 /// Runs the commands at this arity and at arity 2.
@@ -77,7 +57,10 @@ fn without_ties_the_arity_changes_no_reply(rt: HostRuntime) -> Result<(), Fail> 
         let mut drawn = Vec::new(alloc);
         for _ in 0..60 {
             let (kind, number) = draw(&mut rng);
-            if !matches!(kind, Kind::PopIf | Kind::Ask | Kind::Retain | Kind::Append) {
+            if !matches!(
+                kind,
+                Kind::PopIf | Kind::Ask | Kind::Retain | Kind::Append | Kind::Drain
+            ) {
                 drawn.push((kind, number))?;
             }
         }

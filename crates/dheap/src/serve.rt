@@ -1,8 +1,14 @@
 //! One run of the program, over any streams.
-ghost use Rattle.std.specs.Prelude.{◌≡◌, ◌≢◌, ◌+◌, ◌<◌, ◌≤◌, ◌↔◌, ℕ, map, string_bytes, IsNone, IfSome, IfErr, OnOk, MatchOption};
-ghost use Rattle.std.specs.Io.KnownBytes.{Keeps, IsAtEnd};
+ghost use Rattle.std.specs.Prelude.{◌≡◌, ◌≢◌, ◌+◌, ◌<◌, ◌≤◌, ◌↔◌, ◌++◌, ◌∷◌, ℕ, List, [], All, map, codes, is_some, option_to_list, string_bytes, true, IfOk, IfSome, IfErr, OnOk, MatchOption};
+ghost use Rattle.std.specs.Io.KnownBytes.{Appends, Keeps, IsAtEnd};
+ghost use Rattle.dary_heap.specs.Reading as read;
+ghost use Rattle.dheap.specs.Answers.{answer, line, listing, text};
 ghost use Rattle.dheap.specs.Faults.{status_of};
+ghost use Rattle.dheap.specs.Program.{MayPrint};
+ghost use Rattle.dheap.specs.Script.{CarryOut, CarryOutLine, IsFirstBad, Say, Says, lines_left, lines_of, words_of};
 ghost use Rattle.dheap.specs.Words.{IsArity};
+ghost use Rattle.dheap.specs.declared.serve.fault.Fault.TheVariants.{BadLine};
+ghost use Rattle.dheap.specs.declared.serve.line.Line.{Line};
 
 pub(crate) mod fault;
 mod line;
@@ -14,7 +20,11 @@ use dary_heap::run::{Command, Reply, run};
 use fault::Fault;
 use line::Line;
 use std::alloc::Global;
-use std::io::{BufWriter, Read, Write};
+use std::io;
+use std::io::{Read, Write};
+
+/// From so many bytes on, answers are not held back.
+const HELD: usize = 1 << 13;
 
 /// Carries out the commands that `input` holds, writes the answers to `output`, and answers the status
 /// that the program ends with.
@@ -36,6 +46,10 @@ pub fn serve<R: Read, W: Write, E: Write>(
     // Where a line may be bad, all lines were read, and nothing was written.
     ensures whole { result < 2 → IsAtEnd (R.remaining input.new) }
     ensures silent { 0 < result → result < 3 → Keeps (W.contents output.old) (W.contents output.new) }
+
+    // Where it is known what is read: a line is bad, or all are good and their answers are written.
+    ensures bad { result ≡ 1 → IfSome (R.remaining input.old) (λ script. (number : ℕ) × IsFirstBad (lines_of script) number) }
+    ensures printed { result ≡ 0 → IfSome (R.remaining input.old) (λ script. (printed : List ℕ) × MayPrint script printed × Appends (W.contents output.old) (W.contents output.new) printed) }
 {
     match answer_all(alloc, words, input, output) {
         Ok(()) => 0,
@@ -52,7 +66,9 @@ fn answer_all<R: Read, W: Write>(
     ensures usage { IfErr result (λ fault. (status_of fault ≡ 2) ↔ ((d : ℕ) → ¬ (IsArity (map string_bytes words.now) d))) }
     ensures named { OnOk result ((d : ℕ) × IsArity (map string_bytes words.now) d) }
     ensures whole { OnOk result (IsAtEnd (R.remaining input.new)) }
-    ensures bad { IfErr result (λ fault. status_of fault ≡ 1 → IsAtEnd (R.remaining input.new)) }
+    ensures read { IfErr result (λ fault. status_of fault ≡ 1 → IsAtEnd (R.remaining input.new)) }
+    ensures bad { IfErr result (λ fault. status_of fault ≡ 1 → IfSome (R.remaining input.old) (λ script. (number : ℕ) × (fault ≡ BadLine number) × IsFirstBad (lines_of script) number)) }
+    ensures printed { OnOk result (IfSome (R.remaining input.old) (λ script. (printed : List ℕ) × MayPrint script printed × Appends (W.contents output.old) (W.contents output.new) printed)) }
     ensures silent { IfErr result (λ fault. status_of fault < 3 → Keeps (W.contents output.old) (W.contents output.new)) }
 {
     let Some(arity) = arity(words) else {
@@ -93,12 +109,14 @@ fn answer<W: Write, const D: usize>(
     output: &mut W,
 ) -> Result<(), Fault>
     ensures usage { IfErr result (λ fault. status_of fault ≢ 2) }
+    ensures bad { IfErr result (λ fault. status_of fault ≡ 1 → (number : ℕ) × (fault ≡ BadLine number) × IsFirstBad (lines_of script.now) number) }
+    ensures printed { OnOk result ((printed : List ℕ) × MayPrint script.now printed × Appends (W.contents output.old) (W.contents output.new) printed) }
     ensures silent { IfErr result (λ fault. status_of fault < 3 → Keeps (W.contents output.old) (W.contents output.new)) }
 {
     let commands = commands(alloc, script, |bound: i64| move |item: &i64| *item >= bound)?;
     let mut heap = DaryHeap::<i64, D>::new(alloc);
     match run(alloc, &mut heap, commands) {
-        Ok(replies) => write_replies(alloc, replies, output),
+        Ok(replies) => write_replies(alloc, replies.as_slice(), output),
         Err(_) => Err(Fault::NoMemory),
     }
 }
@@ -110,45 +128,123 @@ fn commands<const D: usize, P: FnMut(&i64) -> bool + Drop, F: Fn(i64) -> P>(
     at_least: F,
 ) -> Result<Vec<Command<i64, D, P>>, Fault>
     requires { F.IsAlwaysCallable at_least }
-    ensures { IfErr result (λ fault. status_of fault ≢ 2) }
+    ensures said { IfOk result (λ commands. (lines : List Line) × Say (lines_of script.now) lines × CarryOut (λ n p. F.post at_least n p) (read.commands commands.items) lines) }
+    ensures fault { IfErr result (λ fault. status_of fault ≢ 2) }
+    ensures bad { IfErr result (λ fault. status_of fault ≡ 1 → (number : ℕ) × (fault ≡ BadLine number) × IsFirstBad (lines_of script.now) number) }
 {
     let mut commands = Vec::new(alloc);
-    for (number, line) in (1..u64::MAX).zip(script.split(|byte| *byte == b'\n')) {
-        commands.push(match Line::parse(line) {
-            Some(Line::Push(item)) => Command::Push(item),
-            Some(Line::Pop) => Command::Pop,
-            Some(Line::Len) => Command::Len,
-            Some(Line::Test(bound)) => Command::Ask(at_least(bound)),
-            Some(Line::Blank) => continue,
-            None => return Err(Fault::BadLine(number)),
-        })?;
+    let mut rest = Some(script);
+    for number in 1..u64::MAX {
+        let Some(here) = rest else {
+            break;
+        };
+        let (line, after) = first_line(here);
+        let Some(command) = command(line, &at_least) else {
+            return Err(Fault::BadLine(number));
+        };
+        if let Some(command) = command {
+            commands.push(command)?;
+        }
+        rest = after;
     }
     Ok(commands)
+}
+
+/// The first line, and what comes after its line feed.
+fn first_line(script: &[u8]) -> (&[u8], Option<&[u8]>)
+    ensures { lines_of script.now ≡ result.0.now ∷ lines_left result.1 }
+{
+    match script.iter().position(|byte| *byte == b'\n') {
+        Some(place) => (&script[..place], Some(&script[place + 1..])),
+        None => (script, None),
+    }
+}
+
+/// The command of a line, unless it is bad. A blank line has none.
+fn command<const D: usize, P: FnMut(&i64) -> bool, F: Fn(i64) -> P>(
+    line: &[u8],
+    at_least: &F,
+) -> Option<Option<Command<i64, D, P>>>
+    requires { F.IsAlwaysCallable at_least.now }
+    ensures { MatchOption result ((said : Line) → ¬ (Says (words_of line.now) said)) (λ command. (said : Line) × Says (words_of line.now) said × CarryOutLine (λ n p. F.post at_least.now n p) (map read.command (option_to_list command)) said) }
+{
+    match Line::parse(line)? {
+        Line::Blank => Some(None),
+        Line::Push(item) => Some(Some(Command::Push(item))),
+        Line::Pop => Some(Some(Command::Pop)),
+        Line::Len => Some(Some(Command::Len)),
+        Line::Test(bound) => Some(Some(Command::Ask(at_least(bound)))),
+        Line::PopIf(bound) => Some(Some(Command::PopIf(at_least(bound)))),
+        Line::Keep(bound) => Some(Some(Command::Retain(at_least(bound)))),
+        Line::Sorted(count) => Some(Some(Command::DrainSorted(count))),
+    }
 }
 
 /// Writes a line for each reply, up to the first that says that there was no memory.
 fn write_replies<W: Write, const D: usize>(
     alloc: Global,
-    replies: Vec<Reply<i64, D>>,
+    replies: &[Reply<i64, D>],
     output: &mut W,
 ) -> Result<(), Fault>
-    ensures { IfErr result (λ fault. 3 ≤ status_of fault) }
+    ensures fault { IfErr result (λ fault. 3 ≤ status_of fault) }
+    ensures whole { OnOk result (All (λ reply. is_some (answer reply) ≡ true) (read.replies replies.now)) }
+    ensures written { OnOk result (Appends (W.contents output.old) (W.contents output.new) (text (read.replies replies.now))) }
 {
-    let mut output = BufWriter::new(alloc, output)?;
+    let mut held = Vec::new(alloc);
     for reply in replies {
-        match reply {
-            Reply::Pushed | Reply::Done => writeln!(output, "ok")?,
-            Reply::PushRefused(_) | Reply::ExtendRefused | Reply::AppendRefused(_) => {
-                output.flush()?;
-                return Err(Fault::NoMemory);
-            }
-            Reply::Popped(Some(item)) => writeln!(output, "{item}")?,
-            Reply::Popped(None) | Reply::Asked(None) => writeln!(output, "none")?,
-            Reply::Asked(Some(true)) => writeln!(output, "yes")?,
-            Reply::Asked(Some(false)) => writeln!(output, "no")?,
-            Reply::Len(count) => writeln!(output, "{count}")?,
+        if !write_reply(reply, &mut held)? {
+            pass_on(&mut held, output)?;
+            output.flush()?;
+            return Err(Fault::NoMemory);
+        }
+        if held.len() >= HELD {
+            pass_on(&mut held, output)?;
         }
     }
+    pass_on(&mut held, output)?;
     output.flush()?;
     Ok(())
+}
+
+/// Writes what is held back.
+fn pass_on<W: Write>(held: &mut Vec<u8>, output: &mut W) -> io::Result<()>
+    ensures passed { OnOk result (Appends (W.contents output.old) (W.contents output.new) held.old.items) }
+    ensures none { OnOk result (held.new.items ≡ []) }
+{
+    output.write_all(held.as_slice())?;
+    held.clear();
+    Ok(())
+}
+
+/// Writes the line of a reply, or nothing where the reply says that there was no memory. Answers whether
+/// it had one.
+fn write_reply<W: Write, const D: usize>(reply: &Reply<i64, D>, output: &mut W) -> io::Result<bool>
+    ensures told { IfOk result (λ told. told ≡ is_some (answer (read.reply reply.now))) }
+    ensures written { OnOk result (Appends (W.contents output.old) (W.contents output.new) (line (answer (read.reply reply.now)))) }
+{
+    match reply {
+        Reply::Pushed | Reply::Done => writeln!(output, "ok")?,
+        Reply::Popped(Some(item)) => writeln!(output, "{item}")?,
+        Reply::Popped(None) | Reply::Asked(None) => writeln!(output, "none")?,
+        Reply::Asked(Some(true)) => writeln!(output, "yes")?,
+        Reply::Asked(Some(false)) => writeln!(output, "no")?,
+        Reply::Len(count) => writeln!(output, "{count}")?,
+        Reply::Taken(items) => write_items(items.as_slice(), output)?,
+        _ => return Ok(false),
+    }
+    Ok(true)
+}
+
+/// Writes the line of a listing.
+fn write_items<W: Write>(items: &[i64], output: &mut W) -> io::Result<()>
+    ensures { OnOk result (Appends (W.contents output.old) (W.contents output.new) (listing items.now ++ codes "\n")) }
+{
+    let Some((first, rest)) = items.split_first() else {
+        return writeln!(output, "none");
+    };
+    write!(output, "{first}")?;
+    for item in rest {
+        write!(output, " {item}")?;
+    }
+    writeln!(output)
 }

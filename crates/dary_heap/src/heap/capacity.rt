@@ -1,6 +1,7 @@
 //! How many items a heap has room for.
 ghost use Rattle.std.specs.Prelude.{◌≡◌, ◌+◌, ◌<◌, ◌≤◌, [], length, min, max, IfOk, IsOk, OnOk, OnErr};
 ghost use Rattle.dary_heap.specs.Contents.{Contents};
+ghost use Rattle.dary_heap.specs.HeapOrder.{IsHeapOrdered};
 
 use super::DaryHeap;
 use crate::sift::ByOrd;
@@ -28,6 +29,7 @@ impl<T: Ord, const D: usize> DaryHeap<T, D> {
     /// then the heap is as it was. It compares nothing.
     pub fn reserve(&mut self, additional: usize) -> Result<(), AllocError>
         ensures items { self.new.items ≡ self.old.items }
+        ensures ordered { IsHeapOrdered T.cmp D self.new.items }
         ensures ok { OnOk result (length self.new.items + additional ≤ self.new.capacity) }
         ensures capacity { self.old.capacity ≤ self.new.capacity }
         ensures uncounted { self.new.comparisons ≡ self.old.comparisons }
@@ -45,6 +47,7 @@ impl<T: Ord, const D: usize> DaryHeap<T, D> {
     /// Otherwise it is as [`DaryHeap::reserve`]. It compares nothing.
     pub fn reserve_exact(&mut self, additional: usize) -> Result<(), AllocError>
         ensures items { self.new.items ≡ self.old.items }
+        ensures ordered { IsHeapOrdered T.cmp D self.new.items }
         ensures ok { OnOk result (self.new.capacity ≡ max self.old.capacity (length self.old.items + additional)) }
         ensures capacity { self.old.capacity ≤ self.new.capacity }
         ensures uncounted { self.new.comparisons ≡ self.old.comparisons }
@@ -60,6 +63,7 @@ impl<T: Ord, const D: usize> DaryHeap<T, D> {
     /// The same as [`DaryHeap::reserve`], which answers a `Result` too.
     pub fn try_reserve(&mut self, additional: usize) -> Result<(), AllocError>
         ensures items { self.new.items ≡ self.old.items }
+        ensures ordered { IsHeapOrdered T.cmp D self.new.items }
         ensures ok { OnOk result (length self.new.items + additional ≤ self.new.capacity) }
         ensures capacity { self.old.capacity ≤ self.new.capacity }
         ensures uncounted { self.new.comparisons ≡ self.old.comparisons }
@@ -75,6 +79,7 @@ impl<T: Ord, const D: usize> DaryHeap<T, D> {
     /// The same as [`DaryHeap::reserve_exact`], which answers a `Result` too.
     pub fn try_reserve_exact(&mut self, additional: usize) -> Result<(), AllocError>
         ensures items { self.new.items ≡ self.old.items }
+        ensures ordered { IsHeapOrdered T.cmp D self.new.items }
         ensures ok { OnOk result (self.new.capacity ≡ max self.old.capacity (length self.old.items + additional)) }
         ensures capacity { self.old.capacity ≤ self.new.capacity }
         ensures uncounted { self.new.comparisons ≡ self.old.comparisons }
@@ -93,6 +98,7 @@ impl<T: Ord, const D: usize> DaryHeap<T, D> {
     /// either way. It compares nothing.
     pub fn shrink_to(&mut self, min_capacity: usize) -> Result<(), AllocError>
         ensures items { self.new.items ≡ self.old.items }
+        ensures ordered { IsHeapOrdered T.cmp D self.new.items }
         ensures ok { OnOk result (self.new.capacity ≡ min self.old.capacity (max (length self.old.items) min_capacity)) }
         ensures uncounted { self.new.comparisons ≡ self.old.comparisons }
 
@@ -114,6 +120,7 @@ impl<T: Ord, const D: usize> DaryHeap<T, D> {
     /// A smaller block may be refused. The items stay as they are either way. It compares nothing.
     pub fn shrink_to_fit(&mut self) -> Result<(), AllocError>
         ensures items { self.new.items ≡ self.old.items }
+        ensures ordered { IsHeapOrdered T.cmp D self.new.items }
         ensures ok { OnOk result (self.new.capacity ≡ min self.old.capacity (length self.old.items)) }
         ensures uncounted { self.new.comparisons ≡ self.old.comparisons }
 

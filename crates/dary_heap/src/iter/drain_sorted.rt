@@ -18,15 +18,24 @@ pub struct DrainSorted<'a, T: Ord + Drop, const D: usize> {
 impl<'a, T: Ord + Drop, const D: usize> Drop for DrainSorted<'a, T, D> {
     ghost use Rattle.dary_heap.specs.DrainSorted.{drained_heap};
 
-    #[tactic(auto, using(crate::proofs::Popping::pops_bound_step))]
     fn drop(self)
         ensures items { self.exit.0.now.items ≡ [] }
         ensures capacity { self.exit.0.now.capacity ≡ (drained_heap self.entry).capacity }
         ensures counted { RisesWithin (drained_heap self.entry).comparisons self.exit.0.now.comparisons (pops_bound D (length (drained_heap self.entry).items)) }
     {
         let DrainSorted { heap } = self;
-        while let Some(_) = heap.pop() {}
+        pop_all(heap);
     }
+}
+
+/// Pops what a heap has left, and gives it up.
+#[tactic(auto, using(crate::proofs::Popping::pops_bound_step))]
+fn pop_all<T: Ord + Drop, const D: usize>(heap: &mut DaryHeap<T, D>)
+    ensures items { heap.new.items ≡ [] }
+    ensures capacity { heap.new.capacity ≡ heap.old.capacity }
+    ensures counted { RisesWithin heap.old.comparisons heap.new.comparisons (pops_bound D (length heap.old.items)) }
+{
+    while let Some(_) = heap.pop() {}
 }
 
 impl<T: Ord, const D: usize> DaryHeap<T, D> {

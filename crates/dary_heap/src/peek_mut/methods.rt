@@ -13,9 +13,8 @@ ghost use Rattle.dary_heap.specs.contracts.heap.DaryHeap.{the_row as heap_row};
 use super::PeekMut;
 use crate::heap::DaryHeap;
 use crate::sift::{ByOrd, pop_with, sink_with};
-use std::fmt;
-use std::mem;
 use std::ops::{Deref, DerefMut};
+use std::{fmt, mem};
 
 impl<T: Ord, const D: usize> DaryHeap<T, D> {
     /// The loan of a greatest item, or `None` exactly on an empty heap.

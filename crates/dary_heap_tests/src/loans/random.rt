@@ -1,7 +1,7 @@
 //! Random loans, beside a plain bag and the same sifts of a vector.
 ghost use Rattle.std.specs.Prelude.{◌/◌};
 
-use crate::sharing::Sharing;
+use crate::sharing::{Sharing, keys};
 use crate::shuffles::is_ordered;
 use dary_heap::PeekMut;
 use dary_heap::heap::DaryHeap;
@@ -65,11 +65,6 @@ impl Twin {
             self.rest.swap_remove(place);
         }
     }
-}
-
-/// The keys of items, in their order.
-fn keys(alloc: Global, items: &[Sharing]) -> Result<Vec<u32>, AllocError> {
-    items.iter().map(|item| item.key).collect(alloc)
 }
 
 /// Writes and refreshes a loan a few times, beside its twin.

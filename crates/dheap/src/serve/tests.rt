@@ -104,6 +104,33 @@ fn answers_each_command(rt: HostRuntime) -> Result<(), Fail> {
             "ok\nok\nyes\n9223372036854775807\n-9223372036854775808\n",
         ),
         ("5", "push 00000000000000000000000000012\npop", "ok\n12\n"),
+        (
+            "2",
+            "push 4\npush 9\npush 6\npopif 7\nkeep 5\nsorted 5\nlen\nsorted 1\n",
+            "ok\nok\nok\n9\nok\n6\n0\nnone\n",
+        ),
+        (
+            "3",
+            "push 5\npush 5\nsorted 1\nlen\nkeep 0\npopif 0\n",
+            "ok\nok\n5\n0\nok\nnone\n",
+        ),
+        ("2", "push 3\npopif 4\npopif +3\nlen", "ok\nnone\n3\n0\n"),
+        ("7", "push -1\npush 0\nkeep -0\nsorted 2", "ok\nok\nok\n0\n"),
+        (
+            "6",
+            "push 1\nsorted 0\nlen\nsorted 0",
+            "ok\nnone\n0\nnone\n",
+        ),
+        (
+            "8",
+            "push 2\npush -7\npush 2\npush 11\nsorted\t+3\r\n",
+            "ok\nok\nok\nok\n11 2 2\n",
+        ),
+        (
+            "4",
+            "push 1\npush 2\nsorted 18446744073709551615\npop",
+            "ok\nok\n2 1\nnone\n",
+        ),
     ];
     for (arity, input, output) in table {
         expect_run(&rt, &[arity], input.as_bytes(), (0, output, ""))?;
@@ -153,9 +180,19 @@ fn the_first_bad_line_is_named(rt: HostRuntime) -> Result<(), Fail> {
         ("push 1\u{b}", first),
         ("pop\0", first),
         ("\u{feff}pop", first),
-        ("push 1\npopif 1", second),
-        ("keep 1", first),
-        ("sorted 1", first),
+        ("push 1\npopif", second),
+        ("popif 9223372036854775808", first),
+        ("popif 1 1", first),
+        ("keep", first),
+        ("keep x", first),
+        ("keep 1\r2", first),
+        ("sorted", first),
+        ("sorted -1", first),
+        ("sorted -0", first),
+        ("sorted +", first),
+        ("sorted 18446744073709551616", first),
+        ("sorted 1 1", first),
+        ("Sorted 1", first),
     ];
     for (input, errors) in table {
         expect_run(&rt, &["3"], input.as_bytes(), (1, "", errors))?;

@@ -1,0 +1,196 @@
+-- What a loan makes of a heap, from the contracts of its calls.
+use Rattle.std.proofs.Common.{◌≡◌, ◌↔◌, ℕ, suc, ◌+◌, ◌-◌, ◌*◌, ◌<◌, ◌≤◌, Bool, true, false, List, [], ◌∷◌, ◌++◌, length, refl, sym, ap, ◌∙◌, subst, arith, inl, inr, Some, None, IsTrue, slice_set, Contains, append-nil}
+use Rattle.std.proofs.lemmas.List.Elements.{Contains-append_left, Contains-append_right, Contains-append_cases}
+use Rattle.std.proofs.lemmas.List.Sorted.{IsPermutation-refl, IsPermutation-sym, IsPermutation-trans, IsPermutation-cons, Contains-permutation, length_permutation}
+use Rattle.std.proofs.Math.Nat.{suc-mul}
+use Rattle.std.specs.Bool.{OnFalse}
+use Rattle.std.specs.Cmp.{IsTotalOrder}
+use Rattle.std.specs.declared.cmp.Ordering.{Ordering}
+use Rattle.dary_heap.specs.Asking.{items_in, written}
+use Rattle.dary_heap.specs.Bag.{IsSameBag, IsGreatest-same_bag}
+use Rattle.dary_heap.specs.Bounds.{RisesWithin, refreshes, pop_bound, sink_bound}
+use Rattle.dary_heap.specs.Contents.{Contents}
+use Rattle.dary_heap.specs.HeapOrder.{IsHeapOrdered}
+use Rattle.dary_heap.specs.Loan.{IsExceeded}
+use Rattle.dary_heap.specs.Machine.{Act, Write, Refresh, End, PutBack, TakeOut, Seen, Old, Changed, Loan, Loaned, Refused, Acts}
+use Rattle.dary_heap.specs.Run.{Serves}
+use Rattle.dary_heap.specs.State.{IsState, front}
+use Rattle.dary_heap.proofs.Cancelling.{IsPermutation-uncons}
+use Rattle.dary_heap.proofs.Depth.{times_depth-later}
+use Rattle.dary_heap.proofs.Fronts.{ordered_state, same_state}
+use Rattle.dary_heap.proofs.Serving.{empty, kept}
+use Rattle.dary_heap.proofs.States.{Contains-cases, Contains-first, Contains-later, HasGreater-same_bag}
+
+module _ {X P : Type 0} (cmp : X → X → Ordering) (answers : P → X → Bool → P → Type 0) where
+  -- of the rest the acts read its bag alone
+  Acts-same : (held : X) (rest left : List X) (acts : List (Act X)) (seen : List (Seen X)) (last : X) (end : List X) → IsSameBag rest left → Acts cmp answers held left acts seen last end → Acts cmp answers held rest acts seen last end
+  Acts-same held rest left [] [] last end same h = (h.0, IsPermutation-trans _ _ _ same h.1)
+  Acts-same held rest left (Write x ∷ acts) (Old y ∷ seen) last end same h = (h.0, Acts-same x rest left acts seen last end same h.1)
+  Acts-same held rest left (Refresh ∷ acts) (Changed true ∷ seen) last end same h = (
+    HasGreater-same_bag cmp left rest held (IsPermutation-sym _ _ same) h.0,
+    (
+      h.1.0,
+      h.1.1,
+      IsGreatest-same_bag (held ∷ left) (held ∷ rest) h.1.0 (IsPermutation-cons held left rest (IsPermutation-sym _ _ same)) h.1.2,
+      IsPermutation-trans _ _ _ (IsPermutation-cons held rest left same) h.1.3,
+      h.1.4,
+    ),
+  )
+  Acts-same held rest left (Refresh ∷ acts) (Changed false ∷ seen) last end same h = (λ over. h.0 (HasGreater-same_bag cmp rest left held same over), Acts-same held rest left acts seen last end same h.1)
+  Acts-same held rest left acts seen last end same h = absurd h
+
+  -- one act more
+  Acts-more : (held : X) (rest : List X) (acts : List (Act X)) (seen : List (Seen X)) (mid : X) (left : List X) (act : Act X) (sight : Seen X) (last : X) (end : List X) → Acts cmp answers held rest acts seen mid left → Acts cmp answers mid left (act ∷ []) (sight ∷ []) last end → Acts cmp answers held rest (acts ++ act ∷ []) (seen ++ sight ∷ []) last end
+  Acts-more held rest [] [] mid left act sight last end h more = Acts-same held rest left (act ∷ []) (sight ∷ []) last end h.1 (subst (λ v. Acts cmp answers v left (act ∷ []) (sight ∷ []) last end) h.0 more)
+  Acts-more held rest (Write x ∷ acts) (Old y ∷ seen) mid left act sight last end h more = (h.0, Acts-more x rest acts seen mid left act sight last end h.1 more)
+  Acts-more held rest (Refresh ∷ acts) (Changed true ∷ seen) mid left act sight last end h more = (h.0, (h.1.0, h.1.1, h.1.2, h.1.3, Acts-more h.1.0 h.1.1 acts seen mid left act sight last end h.1.4 more))
+  Acts-more held rest (Refresh ∷ acts) (Changed false ∷ seen) mid left act sight last end h more = (h.0, Acts-more held rest acts seen mid left act sight last end h.1 more)
+  Acts-more held rest acts seen mid left act sight last end h more = absurd h
+
+  -- what is held and what is left were there or were written
+  Acts-among : (held : X) (rest : List X) (acts : List (Act X)) (seen : List (Seen X)) (last : X) (left : List X) → Acts cmp answers held rest acts seen last left → (x : X) → Contains (last ∷ left) x → Contains ((held ∷ rest) ++ written acts) x
+  Acts-among held rest [] [] last left h x in' =
+      let first : last ≡ held = h.0 in
+      Contains-append_left (held ∷ rest) [] x (Contains-permutation (held ∷ left) (held ∷ rest) x (IsPermutation-cons held left rest (IsPermutation-sym _ _ h.1)) (subst (λ v. Contains (v ∷ left) x) first in'))
+  Acts-among held rest (Write w ∷ acts) (Old y ∷ seen) last left h x in' =
+      elim (Contains-append_cases (w ∷ rest) (written acts) x (Acts-among w rest acts seen last left h.1 x in')) [
+        | inl here ↦ elim (Contains-cases w rest x here) [
+          | inl is ↦ Contains-append_right (held ∷ rest) (w ∷ written acts) x (subst (Contains (w ∷ written acts)) is (Contains-first w (written acts)))
+          | inr there ↦ Contains-append_left (held ∷ rest) (w ∷ written acts) x (Contains-later held rest x there)
+        ]
+        | inr later ↦ Contains-append_right (held ∷ rest) (w ∷ written acts) x (Contains-later w (written acts) x later)
+      ]
+  Acts-among held rest (Refresh ∷ acts) (Changed true ∷ seen) last left h x in' =
+      elim (Contains-append_cases (h.1.0 ∷ h.1.1) (written acts) x (Acts-among h.1.0 h.1.1 acts seen last left h.1.4 x in')) [
+        | inl here ↦ Contains-append_left (held ∷ rest) (written acts) x (Contains-permutation (h.1.0 ∷ h.1.1) (held ∷ rest) x (IsPermutation-sym _ _ h.1.3) here)
+        | inr later ↦ Contains-append_right (held ∷ rest) (written acts) x later
+      ]
+  Acts-among held rest (Refresh ∷ acts) (Changed false ∷ seen) last left h x in' = Acts-among held rest acts seen last left h.1 x in'
+  Acts-among held rest acts seen last left h x in' = absurd h
+
+  -- the acts on a loan of the first item of a list, which is now this list
+  pub record IsActed (begun : List X) (acts : List (Act X)) (seen : List (Seen X)) (now : List X) : Type 0 where
+    pub first : X
+    pub rest : List X
+    pub last : X
+    pub left : List X
+    pub from : begun ≡ first ∷ rest
+    pub acted : Acts cmp answers first rest acts seen last left
+    pub to : now ≡ last ∷ left
+
+  pub IsActed-begins : (xs : List X) → 0 < length xs → IsActed xs [] [] xs
+  IsActed-begins [] some = absurd (omega arith)
+  IsActed-begins (x ∷ xs) some = record { first = x; rest = xs; last = x; left = xs; from = refl; acted = (refl, IsPermutation-refl xs); to = refl }
+
+  pub IsActed-write : (begun : List X) (acts : List (Act X)) (seen : List (Seen X)) (now : List X) (x y : X) → IsActed begun acts seen now → front now ≡ Some y → IsActed begun (acts ++ Write x ∷ []) (seen ++ Old y ∷ []) (slice_set now 0 x)
+  IsActed-write begun acts seen now x y h is =
+      let same : Some h.last ≡ Some y = sym (ap front h.to) ∙ is in
+      let old : y ≡ h.last = (cc) in
+      record {
+        first = h.first;
+        rest = h.rest;
+        last = x;
+        left = h.left;
+        from = h.from;
+        acted = Acts-more h.first h.rest acts seen h.last h.left (Write x) (Old y) x h.left h.acted (old, (refl, IsPermutation-refl h.left));
+        to = ap (λ xs. slice_set xs 0 x) h.to;
+      }
+
+  pub IsActed-refresh : (begun : List X) (acts : List (Act X)) (seen : List (Seen X)) (now new : List X) (moved : Bool) → IsActed begun acts seen now → (IsTrue moved ↔ IsExceeded cmp now) → IsSameBag now new → IsState cmp new → OnFalse moved (new ≡ now) → IsActed begun (acts ++ Refresh ∷ []) (seen ++ Changed moved ∷ []) new
+  IsActed-refresh begun acts seen now [] true h says bag state still = absurd (omega (arith, ap length h.to, length_permutation now [] bag))
+  IsActed-refresh begun acts seen now (next ∷ others) true h says bag state still =
+      let whole : IsSameBag (h.last ∷ h.left) (next ∷ others) = subst (λ xs. IsSameBag xs (next ∷ others)) h.to bag in
+      let over = subst (IsExceeded cmp) h.to (says.0 refl) in
+      record {
+        first = h.first;
+        rest = h.rest;
+        last = next;
+        left = others;
+        from = h.from;
+        acted = Acts-more h.first h.rest acts seen h.last h.left Refresh (Changed true) next others h.acted (over, (next, others, IsGreatest-same_bag (next ∷ others) (h.last ∷ h.left) next (IsPermutation-sym _ _ whole) (state.greatest next refl), whole, (refl, IsPermutation-refl others)));
+        to = refl;
+      }
+  IsActed-refresh begun acts seen now new false h says bag state still = record {
+    first = h.first;
+    rest = h.rest;
+    last = h.last;
+    left = h.left;
+    from = h.from;
+    acted = Acts-more h.first h.rest acts seen h.last h.left Refresh (Changed false) h.last h.left h.acted ((λ over. let said : false ≡ true = says.1 (subst (IsExceeded cmp) (sym h.to) over) in cc), (refl, IsPermutation-refl h.left));
+    to = still ∙ h.to;
+  }
+
+-- what the refreshes may have cost, an act later
+cost-next : (count each : ℕ) → (count + 1) * each ≡ count * each + each
+cost-next count each = let next : count + 1 ≡ suc count = omega arith in ap (λ n. n * each) next ∙ suc-mul count each
+
+module _ {X : Type 0} where
+  refreshes-write : (acts : List (Act X)) (x : X) → refreshes (acts ++ Write x ∷ []) ≡ refreshes acts
+  refreshes-write [] x = refl
+  refreshes-write (Write y ∷ acts) x = refreshes-write acts x
+  refreshes-write (Refresh ∷ acts) x = ap (λ n. 1 + n) (refreshes-write acts x)
+
+  refreshes-refresh : (acts : List (Act X)) → refreshes (acts ++ Refresh ∷ []) ≡ refreshes acts + 1
+  refreshes-refresh [] = omega arith
+  refreshes-refresh (Write y ∷ acts) = refreshes-refresh acts
+  refreshes-refresh (Refresh ∷ acts) = omega (arith, refreshes-refresh acts)
+
+  pub cost-write : (acts : List (Act X)) (x : X) (each : ℕ) → refreshes (acts ++ Write x ∷ []) * each ≡ refreshes acts * each
+  cost-write acts x each = ap (λ n. n * each) (refreshes-write acts x)
+
+  pub cost-refresh : (acts : List (Act X)) (each : ℕ) → refreshes (acts ++ Refresh ∷ []) * each ≡ refreshes acts * each + each
+  cost-refresh acts each = ap (λ n. n * each) (refreshes-refresh acts) ∙ cost-next (refreshes acts) each
+
+module _ {X P : Type 0} (cmp : X → X → Ordering) (answers : P → X → Bool → P → Type 0) where
+  -- what the heap and the acts held
+  brought : (items : List X) (acts : List (Act X)) (seen : List (Seen X)) (now : List X) (end : End) → IsActed cmp answers items acts seen now → (x : X) → Contains now x → Contains (items ++ items_in {P = P} (Loan acts end ∷ [])) x
+  brought items acts seen now end h x in' =
+      let there = Acts-among cmp answers h.first h.rest acts seen h.last h.left h.acted x (subst (λ xs. Contains xs x) h.to in') in
+      subst (λ xs. Contains (xs ++ (written acts ++ [])) x) (sym h.from) (subst (λ xs. Contains ((h.first ∷ h.rest) ++ xs) x) (sym (append-nil (written acts))) there)
+
+module _ {X P : Type 0} (cmp : X → X → Ordering) (answers : P → X → Bool → P → Type 0) (D : ℕ) where
+  -- from the heap at the start through the loan at its end to what that leaves
+  pub record IsLoan (old mid end : Contents X) (acts : List (Act X)) (seen : List (Seen X)) (last_cost : ℕ) : Type 0 where
+    pub acted : IsActed cmp answers old.items acts seen mid.items
+    pub len : length mid.items ≡ length old.items
+    pub rises : old.comparisons ≤ mid.comparisons
+    pub counted : mid.comparisons ≤ old.comparisons + refreshes acts * sink_bound D (length old.items)
+    pub ended : RisesWithin mid.comparisons end.comparisons last_cost
+    pub ordered : IsHeapOrdered cmp D end.items
+
+module _ {X P : Type 0} {cmp : X → X → Ordering} {answers : P → X → Bool → P → Type 0} {D : ℕ} where
+  -- there is no item to lend
+  pub loan_of_none : (old : Contents X) (acts : List (Act X)) (end : End) → length old.items ≡ 0 → IsHeapOrdered cmp D old.items → Serves cmp answers D old (Loan acts end) (Loaned None) old
+  loan_of_none old acts end none ordered = let is = empty old.items (omega (arith, none)) in kept old old (Loan acts end) (Loaned None) refl refl ordered (is, is) tt (omega arith)
+
+  pub loan_refused : (old : Contents X) (acts : List (Act X)) (end : End) → (length old.items ≡ 0 → ⊥) → (length acts ≡ 0 → ⊥) → IsHeapOrdered cmp D old.items → Serves cmp answers D old (Loan acts end) Refused old
+  loan_refused old acts end some wanted ordered = kept old old (Loan acts end) Refused refl refl ordered ((λ e. some (ap length e)), (λ e. wanted (ap length e)), same_state _ _ refl) tt (omega arith)
+
+  -- what the loan leaves behind its reference is what the heap is then
+  pub put_back : IsTotalOrder cmp → (old mid end new : Contents X) (acts : List (Act X)) (seen : List (Seen X)) → new ≡ end → IsLoan cmp answers D old mid end acts seen (sink_bound D (length mid.items)) → IsSameBag mid.items end.items → ((IsExceeded cmp mid.items → ⊥) → front end.items ≡ front mid.items) → Serves cmp answers D old (Loan acts PutBack) (Loaned (Some (seen, None))) new
+  put_back total old mid end new acts seen back h bag first =
+      let a = h.acted in
+      rw back record {
+        step = (a.first, a.rest, a.last, a.left, ap front a.from, subst (IsSameBag old.items) a.from (IsPermutation-refl old.items), a.acted, (subst (λ xs. IsSameBag xs end.items) a.to bag, ordered_state total D end.items h.ordered, λ none. first (λ over. none (subst (IsExceeded cmp) a.to over)) ∙ ap front a.to));
+        charged = record { rises = omega (arith, h.rises, h.ended.rises); within = omega (arith, h.counted, h.ended.within, ap (sink_bound D) h.len, cost-next (refreshes acts) (sink_bound D (length old.items))) };
+        served = tt;
+        sure = omega arith;
+        ordered = h.ordered;
+        among = λ x in'. brought cmp answers old.items acts seen mid.items PutBack a x (Contains-permutation end.items mid.items x (IsPermutation-sym _ _ bag) in');
+      }
+
+  pub taken_out : IsTotalOrder cmp → (old mid end new : Contents X) (acts : List (Act X)) (seen : List (Seen X)) (item : X) → new ≡ end → IsLoan cmp answers D old mid end acts seen (pop_bound D (length mid.items)) → front mid.items ≡ Some item → IsSameBag mid.items (item ∷ end.items) → Serves cmp answers D old (Loan acts TakeOut) (Loaned (Some (seen, Some item))) new
+  taken_out total old mid end new acts seen item back h first bag =
+      let a = h.acted in
+      let held : Some a.last ≡ Some item = sym (ap front a.to) ∙ first in
+      let is : item ≡ a.last = (cc) in
+      let whole : IsSameBag (a.last ∷ a.left) (a.last ∷ end.items) = subst (λ v. IsSameBag (a.last ∷ a.left) (v ∷ end.items)) is (subst (λ xs. IsSameBag xs (item ∷ end.items)) a.to bag) in
+      let few : pop_bound D (length mid.items) ≤ sink_bound D (length mid.items) = times_depth-later D (length mid.items - 2) (length mid.items - 1) (omega arith) in
+      rw back record {
+        step = (a.first, a.rest, a.last, a.left, ap front a.from, subst (IsSameBag old.items) a.from (IsPermutation-refl old.items), a.acted, (is, IsPermutation-uncons a.last a.left end.items whole, ordered_state total D end.items h.ordered));
+        charged = record { rises = omega (arith, h.rises, h.ended.rises); within = omega (arith, h.counted, h.ended.within, few, ap (sink_bound D) h.len, cost-next (refreshes acts) (sink_bound D (length old.items))) };
+        served = tt;
+        sure = omega arith;
+        ordered = h.ordered;
+        among = λ x in'. brought cmp answers old.items acts seen mid.items TakeOut a x (Contains-permutation (item ∷ end.items) mid.items x (IsPermutation-sym _ _ bag) (Contains-later item end.items x in'));
+      }

@@ -1,0 +1,44 @@
+use Rattle.std.proofs.Common.{◌≡◌, ◌++◌, ◌∷◌, [], length, take, min, sym, ap, ◌∙◌, arith, append_assoc, length-append}
+use Rattle.dary_heap.proofs.ServingDrains.{drain_refused, drained, first_given, given_first}
+use Rattle.dary_heap.proofs.Written.{written_back}
+use Rattle.dary_heap.proofs.run.drain.Goals as goal
+
+pub returns-in_default : goal.returns-in_default
+returns-in_default g c =
+    let wanted : min c.args.count (length c.args.heap.now.items) ≡ 0 → ⊥ = λ none. (let e : c.min-count.result ≡ 0 = omega (arith, c.min-count.ensures, ap length c.as_slice.ensures.items, none) in let r = c.in_default.ensures.succeeds e in cc) in
+    drain_refused c.args.heap.now c.args.count wanted c.as_slice.ensures.ordered
+
+pub loop-init : goal.loop-init
+loop-init g c = record {
+  parts = sym (ap (λ xs. xs ++ c.drain-items.result) c.in-Ok.ensures.items);
+  long = omega (arith, c.in-Ok.ensures.len);
+  within = omega arith;
+  space = omega (arith, c.in-Ok.ensures.capacity);
+}
+
+pub unwrap-requires : goal.unwrap-requires
+unwrap-requires g c =
+    let before = c.loop.invariant in
+    first_given c.next.result c.loop.items c.next.new.self c.next.ensures.steps (omega (arith, c.loop-test.true, c.min-count.ensures, ap length c.as_slice.ensures.items, ap length c.drain-items.ensures.items, ap length before.parts, length-append c.loop.taken.items c.loop.items, before.long))
+
+pub push_reserved-requires : goal.push_reserved-requires
+push_reserved-requires g c = omega (arith, c.loop-test.true, c.loop.invariant.long, c.loop.invariant.space)
+
+pub loop-preserved : goal.loop-preserved
+loop-preserved g c =
+    let before = c.loop.invariant in
+    let x = c.unwrap.result in
+    let was = given_first c.next.result x c.loop.items c.next.new.self c.unwrap.ensures c.next.ensures.steps in
+    record {
+      parts = before.parts ∙ ap (λ xs. c.loop.taken.items ++ xs) was ∙ sym (append_assoc c.loop.taken.items (x ∷ []) c.next.new.self) ∙ sym (ap (λ xs. xs ++ c.next.new.self) c.push_reserved.ensures.items);
+      long = omega arith;
+      within = omega arith;
+      space = omega arith;
+    }
+
+pub returns : goal.returns
+returns g c =
+    let before = c.loop.invariant in
+    let m = min c.args.count (length c.args.heap.now.items) in
+    let long : length c.loop.taken.items ≡ m = omega (arith, c.min-count.ensures, ap length c.as_slice.ensures.items, before.long, before.within, c.loop-test.false) in
+    drained c.args.heap.now c.drain-items.new.self c.args.count c.loop.taken.items (sym (ap (λ xs. take m xs) (sym c.drain-items.ensures.items ∙ before.parts) ∙ written_back m c.loop.taken.items c.loop.items long)) c.drain-items.ensures.emptied c.drain-items.ensures.uncounted

@@ -1,0 +1,10 @@
+use Rattle.std.proofs.Common.{◌≡◌, ◌++◌, ◌≤◌, vec_len, vec_capacity}
+use Rattle.dary_heap.proofs.run.drain.Given as goal
+
+abbrev pub invariant-loop : goal.invariant-loop
+invariant-loop g l = record {
+  parts : l.initial.items ≡ l.taken.items ++ l.items;
+  long : vec_len l.taken ≡ l.counter;
+  within : l.counter ≤ l.count;
+  space : l.count ≤ vec_capacity l.taken;
+}

@@ -1,0 +1,61 @@
+use Rattle.std.proofs.Common.{rules, ◌≡◌, ◌∷◌, [], length, min, Some, refl, sym, ap, ◌∙◌, subst, arith, length-append}
+use Rattle.std.specs.Fn.{CalledAt}
+use Rattle.dary_heap.specs.Contents.{Contents}
+use Rattle.dary_heap.specs.DrainSorted.{drained_heap}
+use Rattle.dary_heap.specs.Popping.{IsPop}
+use Rattle.dary_heap.proofs.ServingDrains.{PopsThrough, PopsThrough-more, IsPop-step, popped_counted, popped_some, sorted_refused, drained_sorted}
+use Rattle.dary_heap.proofs.run.drain_sorted.Goals as goal
+
+pub returns-in_default : goal.returns-in_default
+returns-in_default g c =
+    let wanted : min c.args.count (length c.args.heap.now.items) ≡ 0 → ⊥ = λ none. (let e : c.min-count.result ≡ 0 = omega (arith, c.min-count.ensures, ap length c.as_slice.ensures.items, none) in let r = c.in_default.ensures.succeeds e in cc) in
+    sorted_refused c.args.heap.now c.args.count wanted c.as_slice.ensures.ordered
+
+pub loop-init : goal.loop-init
+loop-init g c = record {
+  through = subst (λ xs. PopsThrough g.T.Ord.cmp (CalledAt g.P.FnMut) (drained_heap c.drain_sorted-items.result).items xs (drained_heap c.drain_sorted-items.result).items) (sym c.in-Ok.ensures.items) refl;
+  parts = omega (arith, ap length c.in-Ok.ensures.items);
+  long = omega (arith, c.in-Ok.ensures.len);
+  within = omega arith;
+  space = omega (arith, c.in-Ok.ensures.capacity);
+  rises = omega arith;
+  counted = omega arith;
+  same_reference = refl;
+}
+
+pub unwrap-requires : goal.unwrap-requires
+unwrap-requires g c =
+    let before = c.loop.invariant in
+    popped_some (drained_heap c.loop.items) (drained_heap c.next.new.self) c.next.result c.next.ensures.steps.0 (omega (arith, c.loop-test.true, c.min-count.ensures, ap length c.as_slice.ensures.items, ap (λ (it : Contents g.row.T.Denot). length it.items) c.drain_sorted-items.ensures.heap, before.parts, before.long))
+
+pub push_reserved-requires : goal.push_reserved-requires
+push_reserved-requires g c = omega (arith, c.loop-test.true, c.loop.invariant.long, c.loop.invariant.space)
+
+pub loop-preserved : goal.loop-preserved
+loop-preserved g c =
+    let before = c.loop.invariant in
+    let x = c.unwrap.result in
+    let old = drained_heap c.loop.items in
+    let new = drained_heap c.next.new.self in
+    let pop : IsPop g.T.Ord.cmp g.row.D old (Some x) new = subst (λ r. IsPop g.T.Ord.cmp g.row.D old r new) c.unwrap.ensures c.next.ensures.steps.0 in
+    record {
+      through = rw c.push_reserved.ensures.items (PopsThrough-more g.T.Ord.cmp (CalledAt g.P.FnMut) _ c.loop.taken.items old.items x new.items before.through (IsPop-step g.met.T.Ord.total (CalledAt g.P.FnMut) old new x pop));
+      parts = omega (arith, ap length c.push_reserved.ensures.items, length-append c.loop.taken.items (x ∷ []), pop.len, before.parts);
+      long = omega arith;
+      within = omega arith;
+      space = omega arith;
+      rises = omega (arith, pop.counted.rises, before.rises);
+      counted = popped_counted old new x _ pop before.counted;
+      same_reference = c.next.ensures.steps.1 ∙ before.same_reference;
+    }
+
+pub returns : goal.returns
+returns g c =
+    let before = c.loop.invariant in
+    let begun = c.drain_sorted-items.ensures.heap in
+    let items = c.args.heap.now.items in
+    let long : length c.loop.taken.items ≡ min c.args.count (length items) = omega (arith, c.min-count.ensures, ap length c.as_slice.ensures.items, before.long, before.within, c.loop-test.false) in
+    drained_sorted c.args.heap.now _ c.drop-items.new.self.0 c.args.count c.loop.taken.items (drained_heap c.loop.items).items (search rules) (rw begun at before.through) long (rw begun at before.parts) c.drop-items.ensures.items record {
+      rises = omega (arith, c.drop-items.ensures.counted.rises, rw begun at before.rises);
+      within = omega (arith, c.drop-items.ensures.counted.within, rw begun at before.counted);
+    }

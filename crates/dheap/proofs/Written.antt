@@ -1,0 +1,43 @@
+-- What a loop over replies has written.
+use Rattle.std.proofs.Common.{◌≡◌, ℕ, ℤ, suc, ◌<◌, ◌+◌, List, [], ◌∷◌, ◌++◌, Option, None, Some, All, is_some, true, take, length, get_or, sym, ap, ◌∙◌, subst, append_assoc, append-nil, arith}
+use Rattle.std.proofs.Math.Seq.{take-suc}
+use Rattle.std.proofs.lemmas.List.{map-append}
+use Rattle.std.proofs.lemmas.List.Concat.{flat_map-append}
+use Rattle.std.proofs.lemmas.List.Elements.{All-append, All-cons, All-nil}
+use Rattle.std.specs.Io.KnownBytes.{Appends, Keeps, append_known}
+use Rattle.dary_heap.specs.Machine as machine
+use Rattle.dary_heap.specs.Reading as read
+use Rattle.dary_heap.specs.declared.run.Reply.{Reply}
+use Rattle.dheap.specs.Answers.{answer, line, text}
+
+abbrev IsAnswered : machine.Reply ℤ → Type 0
+IsAnswered r = is_some (answer r) ≡ true
+
+module _ {D : ℕ} (replies : List (Reply ℤ D)) (i : ℕ) (reply : Reply ℤ D) (inside : i < length replies) (is : reply ≡ get_or replies i reply) where
+  read-next : read.replies (take (i + 1) replies) ≡ read.replies (take i replies) ++ read.reply reply ∷ []
+  read-next =
+      let suc_i : i + 1 ≡ suc i = omega arith in
+      ap (λ n. read.replies (take n replies)) suc_i ∙ ap (λ xs. read.replies xs) (take-suc replies i reply inside ∙ ap (λ x. take i replies ++ x ∷ []) (sym is)) ∙ map-append read.reply (take i replies) (reply ∷ [])
+
+  pub whole-next : is_some (answer (read.reply reply)) ≡ true → All IsAnswered (read.replies (take i replies)) → All IsAnswered (read.replies (take (i + 1) replies))
+  whole-next told whole = subst (All IsAnswered) (sym read-next) (All-append IsAnswered _ _ whole (All-cons IsAnswered (read.reply reply) [] told (All-nil IsAnswered)))
+
+  pub text-next : text (read.replies (take (i + 1) replies)) ≡ text (read.replies (take i replies)) ++ line (answer (read.reply reply))
+  text-next = ap text read-next ∙ flat_map-append (λ r. line (answer r)) (read.replies (take i replies)) (read.reply reply ∷ []) ∙ ap (λ l. text (read.replies (take i replies)) ++ l) (append-nil _)
+
+pub held-more : (a b : Option (List ℕ)) (held more told says : List ℕ) → Appends a (append_known b held) told → more ≡ held ++ says → Appends a (append_known b more) (told ++ says)
+held-more None b held more told says p e = tt
+held-more (Some x) None held more told says p e = absurd p
+held-more (Some x) (Some y) held more told says p e = ap (λ l. y ++ l) e ∙ sym (append_assoc y held says) ∙ ap (λ l. l ++ says) p ∙ append_assoc x told says
+
+pub passed-on : (a b c : Option (List ℕ)) (held left told : List ℕ) → Appends a (append_known b held) told → Appends b c held → left ≡ [] → Appends a (append_known c left) told
+passed-on None b c held left told p q e = tt
+passed-on (Some x) None c held left told p q e = absurd p
+passed-on (Some x) (Some y) None held left told p q e = absurd q
+passed-on (Some x) (Some y) (Some z) held left told p q e = ap (λ l. z ++ l) e ∙ append-nil z ∙ q ∙ p
+
+pub all-passed : (a b c : Option (List ℕ)) (left told : List ℕ) → Appends a (append_known b left) told → left ≡ [] → Keeps b c → Appends a c told
+all-passed None b c left told p e q = tt
+all-passed (Some x) None c left told p e q = absurd p
+all-passed (Some x) (Some y) None left told p e q = absurd q
+all-passed (Some x) (Some y) (Some z) left told p e q = q ∙ sym (append-nil y) ∙ ap (λ l. y ++ l) (sym e) ∙ p

@@ -1,0 +1,14 @@
+use Rattle.std.proofs.Common.{◌≡◌, All, is_some, true, take}
+use Rattle.std.specs.Io.KnownBytes.{Appends, append_known}
+use Rattle.dary_heap.specs.Reading as read
+use Rattle.dheap.specs.Answers.{answer, text}
+use Rattle.dheap.proofs.serve.write_replies.Given as goal
+
+-- the lines of those before this place are written or held back
+abbrev pub invariant-loop-reply : goal.invariant-loop-reply
+invariant-loop-reply g l =
+    let done = read.replies (take l.reply-index l.replies) in
+    record {
+      whole : All (λ reply. is_some (answer reply) ≡ true) done;
+      written : Appends (g.W.Write.contents l.fn.output) (append_known (g.W.Write.contents l.output) l.held.items) (text done);
+    }

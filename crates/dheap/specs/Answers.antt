@@ -1,0 +1,31 @@
+-- What is printed of replies.
+use Rattle.std.specs.Prelude.{ℕ, ℤ, true, false, List, [], ◌∷◌, ◌++◌, flat_map, Option, Some, None, codes, decimal}
+use Rattle.std.specs.Fmt.{signed_decimal}
+use Rattle.dary_heap.specs.Machine.{Reply, Pushed, Popped, Asked, Size, Done, Taken}
+
+-- the numbers parted by one space
+abbrev pub listing : List ℤ → List ℕ
+listing [] = codes "none"
+listing (x ∷ xs) = signed_decimal x ++ flat_map (λ y. codes " " ++ signed_decimal y) xs
+
+-- the answer that a reply makes: none where it says that there was no memory
+abbrev pub answer : Reply ℤ → Option (List ℕ)
+answer Pushed = Some (codes "ok")
+answer Done = Some (codes "ok")
+answer (Popped (Some x)) = Some (signed_decimal x)
+answer (Popped None) = Some (codes "none")
+answer (Asked (Some true)) = Some (codes "yes")
+answer (Asked (Some false)) = Some (codes "no")
+answer (Asked None) = Some (codes "none")
+answer (Size n) = Some (decimal n)
+answer (Taken xs) = Some (listing xs)
+answer reply = None
+
+-- a line of its own
+abbrev pub line : Option (List ℕ) → List ℕ
+line None = []
+line (Some text) = text ++ codes "\n"
+
+-- the answers to the replies, one a line
+abbrev pub text : List (Reply ℤ) → List ℕ
+text replies = flat_map (λ reply. line (answer reply)) replies
