@@ -317,9 +317,9 @@ fn drain<T: Ord + Drop, const D: usize, P: FnMut(&T) -> bool>(
     let Ok(mut taken) = Vec::with_capacity(alloc, count) else {
         return Reply::Refused;
     };
-    let mut items = heap.drain();
+    let mut rest = heap.drain();
     for _ in 0..count {
-        taken.push_reserved(items.next().unwrap());
+        taken.push_reserved(rest.next().unwrap());
     }
     Reply::Taken(taken)
 }

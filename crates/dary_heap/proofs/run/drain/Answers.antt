@@ -10,7 +10,7 @@ returns-in_default g c =
 
 pub loop-init : goal.loop-init
 loop-init g c = record {
-  parts = sym (ap (λ xs. xs ++ c.drain-items.result) c.in-Ok.ensures.items);
+  parts = sym (ap (λ xs. xs ++ c.drain-rest.result) c.in-Ok.ensures.items);
   long = omega (arith, c.in-Ok.ensures.len);
   within = omega arith;
   space = omega (arith, c.in-Ok.ensures.capacity);
@@ -19,7 +19,7 @@ loop-init g c = record {
 pub unwrap-requires : goal.unwrap-requires
 unwrap-requires g c =
     let before = c.loop.invariant in
-    first_given c.next.result c.loop.items c.next.new.self c.next.ensures.steps (omega (arith, c.loop-test.true, c.min-count.ensures, ap length c.as_slice.ensures.items, ap length c.drain-items.ensures.items, ap length before.parts, length-append c.loop.taken.items c.loop.items, before.long))
+    first_given c.next.result c.loop.rest c.next.new.self c.next.ensures.steps (omega (arith, c.loop-test.true, c.min-count.ensures, ap length c.as_slice.ensures.items, ap length c.drain-rest.ensures.items, ap length before.parts, length-append c.loop.taken.items c.loop.rest, before.long))
 
 pub push_reserved-requires : goal.push_reserved-requires
 push_reserved-requires g c = omega (arith, c.loop-test.true, c.loop.invariant.long, c.loop.invariant.space)
@@ -28,7 +28,7 @@ pub loop-preserved : goal.loop-preserved
 loop-preserved g c =
     let before = c.loop.invariant in
     let x = c.unwrap.result in
-    let was = given_first c.next.result x c.loop.items c.next.new.self c.unwrap.ensures c.next.ensures.steps in
+    let was = given_first c.next.result x c.loop.rest c.next.new.self c.unwrap.ensures c.next.ensures.steps in
     record {
       parts = before.parts ∙ ap (λ xs. c.loop.taken.items ++ xs) was ∙ sym (append_assoc c.loop.taken.items (x ∷ []) c.next.new.self) ∙ sym (ap (λ xs. xs ++ c.next.new.self) c.push_reserved.ensures.items);
       long = omega arith;
@@ -41,4 +41,4 @@ returns g c =
     let before = c.loop.invariant in
     let m = min c.args.count (length c.args.heap.now.items) in
     let long : length c.loop.taken.items ≡ m = omega (arith, c.min-count.ensures, ap length c.as_slice.ensures.items, before.long, before.within, c.loop-test.false) in
-    drained c.args.heap.now c.drain-items.new.self c.args.count c.loop.taken.items (sym (ap (λ xs. take m xs) (sym c.drain-items.ensures.items ∙ before.parts) ∙ written_back m c.loop.taken.items c.loop.items long)) c.drain-items.ensures.emptied c.drain-items.ensures.uncounted
+    drained c.args.heap.now c.drain-rest.new.self c.args.count c.loop.taken.items (sym (ap (λ xs. take m xs) (sym c.drain-rest.ensures.items ∙ before.parts) ∙ written_back m c.loop.taken.items c.loop.rest long)) c.drain-rest.ensures.emptied c.drain-rest.ensures.uncounted

@@ -3,7 +3,7 @@ use Rattle.dary_heap.proofs.run.drain.Given as goal
 
 abbrev pub invariant-loop : goal.invariant-loop
 invariant-loop g l = record {
-  parts : l.initial.items ≡ l.taken.items ++ l.items;
+  parts : l.initial.rest ≡ l.taken.items ++ l.rest;
   long : vec_len l.taken ≡ l.counter;
   within : l.counter ≤ l.count;
   space : l.count ≤ vec_capacity l.taken;
