@@ -55,6 +55,48 @@ fn collect_and_clone<const D: usize>(
     Ok(())
 }
 
+/// Writes the keys into the items, in order.
+fn write_keys(items: &mut [Noting<'_>], keys: &[u32]) {
+    for (item, key) in items.iter_mut().zip(keys) {
+        item.key = *key;
+    }
+}
+
+/// Builds a heap of an array of the first keys, for each of these lengths. An array of items that hold
+/// references has no const parameter for its length, and is not empty: an empty one has no item to compare.
+macro_rules! build_of_arrays {
+    ($rt:expr, $alloc:expr, $keys:expr; $($len:literal)*) => {
+        let calls = Cell::new(0);
+        $({
+            let mut items = [Noting { key: 0, calls: &calls }; $len];
+            write_keys(&mut items, $keys);
+            let Ok(heap) = DaryHeap::<_, D>::from_array($alloc, items) else {
+                return Err(AllocError)?;
+            };
+            let beginning = $keys.split_at($keys.len().min($len)).0;
+            did_build($rt, $alloc, &heap, &calls, beginning)?;
+        })*
+    };
+}
+
+fn of_short_arrays<const D: usize>(
+    rt: &impl Abort,
+    alloc: Global,
+    keys: &[u32],
+) -> Result<(), Fail> {
+    build_of_arrays!(rt, alloc, keys; 1 2 3 4 5 6 7 8 9 10 11 12 13 14 15 16 17 18 19 20);
+    Ok(())
+}
+
+fn of_long_arrays<const D: usize>(
+    rt: &impl Abort,
+    alloc: Global,
+    keys: &[u32],
+) -> Result<(), Fail> {
+    build_of_arrays!(rt, alloc, keys; 21 22 23 24 25 26 27 28 29 30 31 32 33 34 35 36 37 38 39 40);
+    Ok(())
+}
+
 /// The calls on each beginning of a shuffle, up to 40 items.
 fn each_size<const D: usize>(rt: &impl Abort, alloc: Global) -> Result<(), Fail> {
     let all = shuffled(alloc, 0)?;
@@ -62,7 +104,8 @@ fn each_size<const D: usize>(rt: &impl Abort, alloc: Global) -> Result<(), Fail>
         let beginning = all.split_at(all.len().min(size)).0;
         collect_and_clone::<D>(rt, alloc, beginning)?;
     }
-    Ok(())
+    of_short_arrays::<D>(rt, alloc, &all)?;
+    of_long_arrays::<D>(rt, alloc, &all)
 }
 
 #[test]
