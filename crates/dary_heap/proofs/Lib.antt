@@ -28,3 +28,8 @@ pub mod Cancelling
 pub mod States
 pub mod SameReplies
 pub mod SameStates
+pub mod Bags
+pub mod Cheapest
+pub mod Walks
+pub mod Relaxing
+pub mod Searching

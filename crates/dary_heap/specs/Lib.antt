@@ -15,7 +15,9 @@ pub mod PeekMut
 pub mod Popping
 pub mod Reading
 pub mod Run
+pub mod Searching
 pub mod Sifting
 pub mod State
 pub mod Tail
 pub mod TwoArities
+pub mod Walk

@@ -20,13 +20,15 @@
 //! - [`heap`] has the heap;
 //! - [`peek_mut`] lends a heap's greatest item, to be read and written;
 //! - [`iter`] goes over the items of a heap, as they are stored or in descending order;
-//! - [`run`] carries lists of commands out, against the machine that says what a heap may answer.
+//! - [`run`] carries lists of commands out, against the machine that says what a heap may answer;
+//! - [`shortest_path`] searches a graph for a cheapest walk, over a heap.
 #![tactic(auto)]
 
 pub mod heap;
 pub mod iter;
 pub mod peek_mut;
 pub mod run;
+pub mod shortest_path;
 pub mod sift;
 
 pub use heap::{

@@ -1,0 +1,93 @@
+-- Edges that are examined one after another.
+use Rattle.std.proofs.Common.{◌≡◌, ◌⊎◌, ℕ, ◌+◌, ◌<◌, ◌≤◌, inl, inr, List, [], ◌∷◌, ◌++◌, length, Contains, arith, get_or, refl, sym, ap, ◌∙◌, subst, get_or-set_same, get_or-set_other}
+use Rattle.std.proofs.Math.ListN.{set, length-set}
+use Rattle.std.proofs.lemmas.Bool.{cases_eq}
+use Rattle.std.proofs.lemmas.List.{get_or_default}
+use Rattle.std.proofs.lemmas.List.Elements.{Contains-push, Contains-append_left, Contains-append_right, Contains-append_cases}
+use Rattle.std.proofs.lemmas.List.Sorted.{length_permutation}
+use Rattle.std.proofs.lemmas.List.Sums.{sum_by-set}
+use Rattle.dary_heap.proofs.Bags.{came_first, came_later, came_cases}
+use Rattle.dary_heap.proofs.Fronts.{alone}
+use Rattle.dary_heap.specs.Bag.{IsSameBag}
+use Rattle.dary_heap.specs.Searching.{state, IsAlong, Relaxes}
+use Rattle.dary_heap.specs.declared.shortest_path.Edge.{Edge}
+use Rattle.dary_heap.specs.declared.shortest_path.State.{State}
+
+-- what the code read as the cost found
+found_is : (limit : ℕ) (found : List ℕ) (i x : ℕ) → i < length found → x ≡ get_or found i x → x ≡ get_or found i limit
+found_is limit found i x within read = read ∙ get_or_default found i x limit within
+
+-- a cost after one was written
+written : (limit : ℕ) (found : List ℕ) (i c v : ℕ) → i < length found → (v ≡ i) × (get_or (set found i c) v limit ≡ c) ⊎ (get_or (set found i c) v limit ≡ get_or found v limit)
+written limit found i c v within = elim (cases_eq v i) [
+  | inl is ↦ inl (is, rw is (get_or-set_same found i c limit within))
+  | inr ne ↦ inr (get_or-set_other found i v c limit ne)
+]
+
+IsAlong-among : {cost : ℕ} (edges all : List Edge) (s : State) → ((e : Edge) → Contains edges e → Contains all e) → IsAlong cost edges s → IsAlong cost all s
+IsAlong-among edges all s among a = record { edge = a.edge; stands = among a.edge a.stands; ends = a.ends; costs = a.costs }
+
+module _ {limit cost : ℕ} where
+  module _ (e : Edge) (found : List ℕ) (waiting : List State) (below : cost + e.cost < limit) (within : e.node < length found) (x : ℕ) (read : x ≡ get_or found e.node x) where
+    -- the edge leads to nothing cheaper
+    pub relaxes_kept : x ≤ cost + e.cost → Relaxes limit cost (e ∷ []) found waiting found waiting
+    relaxes_kept under = record {
+      same = refl;
+      falls = λ v. omega arith;
+      sums = λ d h. subst (λ (d : Edge). cost + d.cost < limit) (alone e d h) below;
+      ends = λ d h. subst (λ (d : Edge). get_or found d.node limit ≤ cost + d.cost) (alone e d h) (omega (arith, found_is limit found e.node x within read));
+      keeps = λ s h. h;
+      adds = λ s h. inl h;
+      changes = λ v. inl refl;
+      spent = omega arith;
+    }
+
+    -- the edge leads to something cheaper
+    pub relaxes_lower : {grown : List State} → cost + e.cost < x → IsSameBag (state (cost + e.cost) e.node ∷ waiting) grown → Relaxes limit cost (e ∷ []) found waiting (set found e.node (cost + e.cost)) grown
+    relaxes_lower {grown} under bag =
+        let c = cost + e.cost in
+        let next = state c e.node in
+        record {
+          same = length-set found e.node c;
+          falls = λ v. elim (written limit found e.node c v within) [
+            | inl p ↦ omega (arith, p.1, found_is limit found e.node x within read, ap (λ i. get_or found i limit) p.0)
+            | inr q ↦ omega arith
+          ];
+          sums = λ d h. subst (λ (d : Edge). cost + d.cost < limit) (alone e d h) below;
+          ends = λ d h. subst (λ (d : Edge). get_or (set found e.node c) d.node limit ≤ cost + d.cost) (alone e d h) (omega (arith, get_or-set_same found e.node c limit within));
+          keeps = λ s h. came_later next waiting grown s bag h;
+          adds = λ s h. elim (came_cases next waiting grown s bag h) [
+            | inl is ↦ inr record { edge = e; stands = Contains-push [] e; ends = sym (ap (λ (s : State). s.position) is); costs = sym (ap (λ (s : State). s.cost) is) }
+            | inr old ↦ inl old
+          ];
+          changes = λ v. elim (written limit found e.node c v within) [
+            | inl p ↦ inr (rw p.1 (rw p.0 (came_first next waiting grown bag)))
+            | inr q ↦ inl q
+          ];
+          spent = omega (arith, found_is limit found e.node x within read, sum_by-set (λ n. n) found e.node c limit within, length_permutation (next ∷ waiting) grown bag);
+        }
+
+  -- edges, and then more edges
+  pub relaxes_more : {edges more : List Edge} {found mid lower : List ℕ} {waiting between grown : List State} → Relaxes limit cost edges found waiting mid between → Relaxes limit cost more mid between lower grown → Relaxes limit cost (edges ++ more) found waiting lower grown
+  relaxes_more {edges} {more} {mid = mid} a b = record {
+    same = b.same ∙ a.same;
+    falls = λ v. omega (arith, a.falls v, b.falls v);
+    sums = λ e h. elim (Contains-append_cases edges more e h) [ inl c ↦ a.sums e c | inr c ↦ b.sums e c ];
+    ends = λ e h. elim (Contains-append_cases edges more e h) [ inl c ↦ omega (arith, a.ends e c, b.falls e.node) | inr c ↦ b.ends e c ];
+    keeps = λ s h. b.keeps s (a.keeps s h);
+    adds = λ s h. elim (b.adds s h) [
+      | inl c ↦ elim (a.adds s c) [
+        | inl old ↦ inl old
+        | inr along ↦ inr (IsAlong-among edges (edges ++ more) s (Contains-append_left edges more) along)
+      ]
+      | inr along ↦ inr (IsAlong-among more (edges ++ more) s (Contains-append_right edges more) along)
+    ];
+    changes = λ v. elim (b.changes v) [
+      | inl e ↦ elim (a.changes v) [
+        | inl d ↦ inl (e ∙ d)
+        | inr c ↦ inr (rw e (b.keeps (state (get_or mid v limit) v) c))
+      ]
+      | inr c ↦ inr c
+    ];
+    spent = omega (arith, a.spent, b.spent);
+  }

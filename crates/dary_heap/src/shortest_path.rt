@@ -1,0 +1,193 @@
+//! The search for a cheapest walk, over a ternary heap.
+//!
+//! [`shortest_path`] is the search that the documentation of heaps gives as its example. Its contract
+//! speaks of walks and of what they cost, by the words of `specs/Walk.antt`, which know nothing of a
+//! search. It stands on `new`, `push` and `pop` of the heap alone.
+ghost use Rattle.std.proofs.Common.{rules};
+ghost use Rattle.std.specs.Cmp.{partial_order_from_own_ties};
+ghost use Rattle.std.specs.Cmp.Rules.{comparing};
+ghost use Rattle.std.specs.Ordering.{as_partial_cmp};
+ghost use Rattle.std.specs.Prelude.{◌≡◌, ◌+◌, ◌<◌, ◌≤◌, [], ◌∷◌, IfOk, IfErr, OnOk, IfSome, IfNone, All, length};
+ghost use Rattle.dary_heap.specs.Searching.{state_cmp, Relaxes, HasTooLarge};
+ghost use Rattle.dary_heap.specs.Walk.{IsWithin, IsLeastCost, IsUnreached, HasCritical, NoneCriticalBelow};
+ghost use Rattle.dary_heap.specs.declared.shortest_path.PathRefusal.TheVariants.{NoMemory, CostTooLarge};
+
+use crate::heap::TernaryHeap;
+use std::alloc::Global;
+use std::cmp::Ordering;
+
+/// An edge of a graph: the node that it leads to, and what it costs.
+#[derive(Clone, Copy, PartialEq, Eq, Debug)]
+pub struct Edge {
+    /// The node that it leads to.
+    pub node: usize,
+    /// What it costs.
+    pub cost: usize,
+}
+
+/// A node that was reached at a cost.
+///
+/// The cheaper state is the greater one, so that a heap gives the cheapest first. Of two that cost the
+/// same the one of the greater node is the greater.
+#[derive(Clone, Copy, PartialEq, Eq, Debug)]
+pub struct State {
+    /// What a walk to the node costs.
+    pub cost: usize,
+    /// The node.
+    pub position: usize,
+}
+
+impl Ord for State {
+    ghost cmp = { state_cmp };
+
+    ghost total = { Prim.search (comparing, rules) };
+
+    ghost matches_partial_cmp = { Prim.search (comparing, rules) };
+
+    ghost matches_eq = { Prim.search (comparing, rules) };
+
+    fn cmp(&self, other: &State) -> Ordering {
+        // The costs stand the other way round.
+        other
+            .cost
+            .cmp(&self.cost)
+            .then(self.position.cmp(&other.position))
+    }
+}
+
+impl PartialOrd for State {
+    ghost partial_cmp = { as_partial_cmp state_cmp };
+
+    ghost laws = { partial_order_from_own_ties (Prim.search (comparing, rules)) (Prim.search (comparing, rules)) };
+
+    fn partial_cmp(&self, other: &State) -> Option<Ordering> {
+        Some(self.cmp(other))
+    }
+}
+
+/// Why a search gave no answer.
+#[derive(Clone, Copy, PartialEq, Eq, Debug)]
+pub enum PathRefusal {
+    /// There was no memory.
+    NoMemory,
+    /// What a walk costs reaches `usize::MAX`.
+    CostTooLarge,
+}
+
+/// The least cost of a walk from one node to another, or `None` exactly where no walk leads there.
+///
+/// `adj_list` has for each node the list of the edges that leave it. The caller owes that `start` and the
+/// node of each edge are nodes of the graph, which are the numbers below its length. `goal` may be any
+/// number; no walk leads to one past the last node. To `start` itself the least cost is 0.
+///
+/// Costs are summed up in a `usize`. Take a node other than the goal that a walk reaches, and its least
+/// cost. If with what one of its edges costs that comes to `usize::MAX` or more, the node is critical.
+/// `CostTooLarge` is answered only where some critical node's least cost is at most that of every walk to
+/// the goal. Where some critical node's least cost is below that of every walk to the goal, no cost and
+/// no `None` is answered. So an edge that costs too much does not matter where its node is dearer to
+/// reach than the goal.
+///
+/// `NoMemory` is answered only where there was no memory for the table, which has a number for each node,
+/// or for the states that wait. Those are never more than the edges of the graph, and one.
+///
+/// The table is filled once; nothing else goes over all nodes. The edges of a node are examined once at
+/// most. A state is pushed for the start, and at most one for each edge that is examined; each is popped
+/// once at most. These pushes and pops take the comparisons of a ternary heap.
+///
+/// ```
+/// let from_0 = vec![in alloc; Edge { node: 1, cost: 7 }, Edge { node: 2, cost: 1 }]?;
+/// let from_2 = vec![in alloc; Edge { node: 1, cost: 3 }]?;
+/// let graph = vec![in alloc; from_0, Vec::new(alloc), from_2]?;
+/// assert_eq!(rt; shortest_path(alloc, &graph, 0, 1), Ok(Some(4)));
+/// assert_eq!(rt; shortest_path(alloc, &graph, 1, 0), Ok(None));
+/// ```
+pub fn shortest_path(
+    alloc: Global,
+    adj_list: &Vec<Vec<Edge>>,
+    start: usize,
+    goal: usize,
+) -> Result<Option<usize>, PathRefusal>
+    requires graph { IsWithin (length adj_list.now.items) adj_list.now.items }
+    requires start { start < length adj_list.now.items }
+
+    // The answer is the cost of a walk, and none costs less; or no walk leads to the goal.
+    ensures least { IfOk result (λ answer. IfSome answer (IsLeastCost adj_list.now.items start goal)) }
+    ensures unreached { IfOk result (λ answer. IfNone answer (IsUnreached adj_list.now.items start goal)) }
+
+    // A critical node that is cheaper to reach than the goal leaves no answer, and `CostTooLarge` comes
+    // only from one that is no dearer to reach than the goal.
+    ensures uncritical { OnOk result (NoneCriticalBelow usize.MAX adj_list.now.items start goal) }
+    ensures too_large { IfErr result (λ refusal. refusal ≡ CostTooLarge → HasCritical usize.MAX adj_list.now.items start goal) }
+{
+    // What a walk to each node was found to cost so far, and the greatest number where none was found.
+    let Ok(mut found) = vec![in alloc; usize::MAX; adj_list.len()] else {
+        return Err(PathRefusal::NoMemory);
+    };
+    found[start] = 0;
+    let mut heap = TernaryHeap::new(alloc);
+    let Ok(()) = heap.push(State {
+        cost: 0,
+        position: start,
+    }) else {
+        return Err(PathRefusal::NoMemory);
+    };
+    while let Some(State { cost, position }) = heap.pop() {
+        if position == goal {
+            return Ok(Some(cost));
+        }
+        // Something cheaper was found for the node since this state was pushed.
+        if cost > found[position] {
+            continue;
+        }
+        relax(&adj_list[position], cost, &mut found, &mut heap)?;
+    }
+    Ok(None)
+}
+
+/// Examines the edges of a node that is reached at a cost, in their order.
+fn relax(
+    edges: &Vec<Edge>,
+    cost: usize,
+    found: &mut Vec<usize>,
+    heap: &mut TernaryHeap<State>,
+) -> Result<(), PathRefusal>
+    requires { All (λ edge. edge.node < length found.old.items) edges.now.items }
+    ensures ok { OnOk result (Relaxes usize.MAX cost edges.now.items found.old.items heap.old.items found.new.items heap.new.items) }
+    ensures too_large { IfErr result (λ refusal. refusal ≡ CostTooLarge → HasTooLarge usize.MAX cost edges.now.items) }
+    ensures no_memory { IfErr result (λ refusal. refusal ≡ NoMemory → length heap.new.items ≡ heap.new.capacity) }
+{
+    for edge in edges {
+        examine(*edge, cost, found, heap)?;
+    }
+    Ok(())
+}
+
+/// Examines one edge of a node that is reached at a cost: if it leads to its end at less than was found,
+/// that is found from now on, and waits.
+fn examine(
+    edge: Edge,
+    cost: usize,
+    found: &mut Vec<usize>,
+    heap: &mut TernaryHeap<State>,
+) -> Result<(), PathRefusal>
+    requires { edge.node < length found.old.items }
+    ensures ok { OnOk result (Relaxes usize.MAX cost (edge ∷ []) found.old.items heap.old.items found.new.items heap.new.items) }
+    ensures too_large { IfErr result (λ refusal. refusal ≡ CostTooLarge → usize.MAX ≤ cost + edge.cost) }
+    ensures no_memory { IfErr result (λ refusal. refusal ≡ NoMemory → length heap.new.items ≡ heap.new.capacity) }
+{
+    // Whether the sum reaches the greatest number, without forming it.
+    if edge.cost >= usize::MAX - cost {
+        return Err(PathRefusal::CostTooLarge);
+    }
+    let next = State {
+        cost: cost + edge.cost,
+        position: edge.node,
+    };
+    if next.cost < found[next.position] {
+        let Ok(()) = heap.push(next) else {
+            return Err(PathRefusal::NoMemory);
+        };
+        found[next.position] = next.cost;
+    }
+    Ok(())
+}
