@@ -31,6 +31,8 @@ mod loans;
 #[cfg(test)]
 mod noting;
 #[cfg(test)]
+mod paths;
+#[cfg(test)]
 mod queues;
 #[cfg(test)]
 mod repairs;
