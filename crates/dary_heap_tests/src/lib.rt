@@ -36,6 +36,7 @@ mod paths;
 mod queues;
 #[cfg(test)]
 mod repairs;
+pub mod roads;
 #[cfg(test)]
 mod rooms;
 #[cfg(test)]
