@@ -33,3 +33,6 @@ pub mod Cheapest
 pub mod Walks
 pub mod Relaxing
 pub mod Searching
+pub mod HoleOpens
+pub mod HoleLent
+pub mod Hollow

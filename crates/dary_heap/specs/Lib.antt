@@ -8,6 +8,7 @@ pub mod DrainSorted
 pub mod Extending
 pub mod Filtering
 pub mod HeapOrder
+pub mod Hole
 pub mod Lending
 pub mod Loan
 pub mod Machine

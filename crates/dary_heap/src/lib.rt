@@ -25,6 +25,7 @@
 #![tactic(auto)]
 
 pub mod heap;
+mod hole;
 pub mod iter;
 pub mod peek_mut;
 pub mod run;
