@@ -8,7 +8,7 @@ mod choice;
 mod lends;
 mod moves;
 
-pub(crate) use choice::greatest_child;
+pub(crate) use choice::greatest_sibling;
 pub(crate) use lends::with_hole;
 
 /// The places of a slice, of which some may be empty.

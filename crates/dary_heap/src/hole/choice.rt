@@ -1,9 +1,9 @@
 //! The choice of the greatest among the siblings of a row, whole or cut off by the slice's end.
-ghost use Rattle.std.specs.Prelude.{◌≡◌, ◌+◌, ◌-◌, ◌*◌, ◌<◌, ◌≤◌, ℕ, true, false, slice_index_or, if◌then◌else◌};
+ghost use Rattle.std.specs.Prelude.{◌≡◌, ◌+◌, ◌-◌, ◌*◌, ◌<◌, ◌≤◌, ℕ, true, false, slice_index_or, min, if◌then◌else◌};
+ghost use Rattle.std.specs.Bool.{OnTrue, OnFalse};
 ghost use Rattle.core.specs.Mem.Slots.Ownership.{Filled};
 ghost use Rattle.dary_heap.specs.HeapOrder.{arity, IsLastGreatestChild};
-ghost use Rattle.dary_heap.specs.Hole.{IsFullBut};
-ghost use Rattle.dary_heap.specs.Sifting.{IsLastGreatest, children};
+ghost use Rattle.dary_heap.specs.Sifting.{IsLastGreatest};
 
 use super::Hole;
 use crate::sift::Judge;
@@ -132,23 +132,24 @@ fn greatest_of_cut<T, J: Judge<T>, const D: usize>(
     last_greatest(row, first, end, judge)
 }
 
-/// The place of the last greatest child of the hole at `place`, which has one.
+/// The place of the last greatest of siblings. They begin at `first`; either the row is whole, or the
+/// slice's end cuts it off.
 #[inline(always)]
-pub(crate) fn greatest_child<T, J: Judge<T>, const D: usize>(
+pub(crate) fn greatest_sibling<T, J: Judge<T>, const D: usize>(
     row: &Hole<T>,
-    place: usize,
+    first: usize,
+    is_whole: bool,
     judge: &mut J,
 ) -> usize
-    requires some { place * arity D + 1 < row.now.len }
-    requires hollow { IsFullBut row.now place }
-    ensures greatest { IsLastGreatestChild J.order D place result row.now.items }
-    ensures counted { J.count judge.new + 1 ≡ J.count judge.old + children D (row.now.len - 1) place }
+    requires some { first < row.now.len }
+    requires whole { OnTrue is_whole (first + arity D ≤ row.now.len) }
+    requires cut { OnFalse is_whole (row.now.len < first + arity D) }
+    requires filled { Filled row.now.filled first row.now.len }
+    ensures greatest { (place : ℕ) → first ≡ place * arity D + 1 → IsLastGreatestChild J.order D place result row.now.items }
+    ensures counted { J.count judge.new + 1 ≡ J.count judge.old + min (arity D) (row.now.len - first) }
 {
-    let first = place * D.max(1) + 1;
-    let len = row.len();
-    if D.max(1) <= len - first {
-        greatest_of_whole::<T, J, D>(row, first, judge)
-    } else {
-        greatest_of_cut::<T, J, D>(row, first, len, judge)
+    if is_whole {
+        return greatest_of_whole::<T, J, D>(row, first, judge);
     }
+    greatest_of_cut::<T, J, D>(row, first, row.len(), judge)
 }
