@@ -60,9 +60,9 @@ fn greatest_of_four<T, J: Judge<T>>(row: &Hole<T>, first: usize, judge: &mut J) 
     ensures greatest { IsLastGreatest J.order first (first + 4) result row.now.items }
     ensures counted { J.count judge.new ≡ J.count judge.old + 3 }
 {
-    let best = greatest_of_two(row, first, judge);
-    let other = greatest_of_two(row, first + 2, judge);
-    greater_of(row, best, other, judge)
+    let left = greatest_of_two(row, first, judge);
+    let right = greatest_of_two(row, first + 2, judge);
+    greater_of(row, left, right, judge)
 }
 
 /// The place of the last greatest item from `first` up to `end`.
