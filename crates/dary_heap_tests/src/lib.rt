@@ -13,6 +13,8 @@ mod builds;
 #[cfg(test)]
 mod commands;
 #[cfg(test)]
+mod counting;
+#[cfg(test)]
 mod depths;
 #[cfg(test)]
 mod drops;
@@ -45,6 +47,10 @@ mod sharing;
 mod shuffles;
 #[cfg(test)]
 mod sifts;
+#[cfg(test)]
+mod sinks;
+#[cfg(test)]
+mod sizes;
 #[cfg(test)]
 mod sorted;
 #[cfg(test)]
