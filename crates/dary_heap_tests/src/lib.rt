@@ -11,6 +11,8 @@ mod bags;
 #[cfg(test)]
 mod builds;
 #[cfg(test)]
+mod changing;
+#[cfg(test)]
 mod commands;
 #[cfg(test)]
 mod counting;
@@ -61,3 +63,5 @@ mod twins;
 mod two_arities;
 #[cfg(test)]
 mod types;
+#[cfg(test)]
+mod ways_out;
