@@ -213,6 +213,9 @@ fn room_is_reserved_and_given_back(rt: HostRuntime) -> Result<(), Fail> {
     let commands = vec![in alloc; Command::Reserve(40)]?;
     replies(&rt, &mut heap, &never, commands, "[Done]", &[3, 2, 1])?;
     assert!(rt; heap.capacity() >= 43);
+    let commands = vec![in alloc; Command::Shrink(20)]?;
+    replies(&rt, &mut heap, &never, commands, "[Done]", &[3, 2, 1])?;
+    assert_eq!(rt; heap.capacity(), 20);
     Ok(())
 }
 
