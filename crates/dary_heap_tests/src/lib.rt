@@ -21,6 +21,8 @@ mod depths;
 #[cfg(test)]
 mod drops;
 #[cfg(test)]
+mod extremes;
+#[cfg(test)]
 mod filters;
 #[cfg(test)]
 mod iterators;
