@@ -1,6 +1,9 @@
 -- Items that come in one after another.
-use Rattle.std.proofs.Common.{◌≡◌, ℕ, ◌-◌, ◌≤◌, List, [], ◌∷◌, ◌++◌, length, refl, sym, ap, ◌∙◌, subst, Option, append-nil}
-use Rattle.std.specs.Iterator.{Yields}
+use Rattle.std.proofs.Common.{◌≡◌, ℕ, ◌+◌, ◌-◌, ◌≤◌, List, [], ◌∷◌, ◌++◌, length, map, refl, sym, ap, ◌∙◌, subst, arith, Option, None, append-nil, append_assoc, length-append}
+use Rattle.std.proofs.iter.Next.{Ran}
+use Rattle.std.proofs.lemmas.List.{map-append}
+use Rattle.core.proofs.iter.runs.Lists.{Yields-both}
+use Rattle.std.specs.Iterator.{Count, EndsFrom, items_left, IsFinite, size, Yields, YieldsThen, Drains}
 use Rattle.std.specs.declared.cmp.Ordering.{Ordering}
 use Rattle.dary_heap.specs.Bag.{IsSameBag}
 use Rattle.dary_heap.specs.Bounds.{RisesWithin, mend_bound}
@@ -12,6 +15,26 @@ use Rattle.dary_heap.specs.HeapOrder.{IsHeapOrdered}
 pub Yields-front : {S A : Type 0} (steps : S → Option A → S → Type 0) (s : S) (xs : List A) (x : A) (u : S) → Yields steps s (xs ++ x ∷ []) u → (t : S) × Yields steps s xs t
 Yields-front steps s [] x u gave = (s, refl)
 Yields-front steps s (y ∷ xs) x u gave = let rest = Yields-front steps gave.0 xs x u gave.2 in (rest.0, (gave.0, gave.1, rest.1))
+
+-- what came in by two turns
+pub came_both : {X T : Type 0} (value : X → T) (old now new : List T) (xs ys : List X) → now ≡ old ++ map value xs → new ≡ now ++ map value ys → new ≡ old ++ map value (xs ++ ys)
+came_both value old now new xs ys first second = second ∙ ap (λ l. l ++ map value ys) first ∙ append_assoc old (map value xs) (map value ys) ∙ ap (λ l. old ++ l) (sym (map-append value xs ys))
+
+module _ {S A : Type 0} {can : S → Type 0} (left : S → Count) {steps : S → Option A → S → Type 0} {P : List A → Type 0} {s t : S} (ran : Ran can (EndsFrom left) (items_left left) steps P s t) (xs : List A) (u : S) where
+  -- it ended
+  pub ran_dry : YieldsThen steps t xs None u → Drains steps s (ran.seen ++ xs)
+  ran_dry gave = (u, (gave.0, Yields-both steps ran.seen xs s t gave.0 ran.gave gave.1, gave.2))
+
+  -- it may go on
+  abbrev pub ran_on : {Q : List A → Type 0} → Yields steps t xs u × can u × IsFinite (left u) × (length xs + size (left u) ≤ size (left t)) → Q (ran.seen ++ xs) → Ran can (EndsFrom left) (items_left left) steps Q s u
+  ran_on gave holds = record {
+    callable = gave.1;
+    ending = gave.2;
+    seen = ran.seen ++ xs;
+    gave = Yields-both steps ran.seen xs s t u ran.gave gave.0;
+    counted = omega (arith, ran.counted, gave.3, length-append ran.seen xs);
+    holds = holds;
+  }
 
 -- items that were put behind those of a heap and mended
 pub mended : {T : Type 0} {cmp : T → T → Ordering} {D : ℕ} (old new : Contents T) (xs now : List T) (start : ℕ) → now ≡ old.items ++ xs → start ≡ length old.items → length now ≡ length new.items → IsSameBag now new.items → (start ≡ length now → new.items ≡ now) → IsHeapOrdered cmp D new.items → RisesWithin old.comparisons new.comparisons (mend_bound D (length now) (length now - start)) → old.capacity ≤ new.capacity → IsExtended cmp D old xs new

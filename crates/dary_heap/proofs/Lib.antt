@@ -1,3 +1,4 @@
+pub mod Answered
 pub mod Asking
 pub mod Callable
 pub mod Cloning
@@ -9,6 +10,7 @@ pub mod Iterating
 pub mod Order
 pub mod Popping
 pub mod Place
+pub mod Reversed
 pub mod Rising
 pub mod Row
 pub mod Runs

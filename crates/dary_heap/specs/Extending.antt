@@ -1,6 +1,7 @@
 -- What items that come in one after another make of a heap.
-use Rattle.std.specs.Prelude.{◌≡◌, ℕ, ◌+◌, ◌-◌, ◌≤◌, ◌++◌, List, [], ◌∷◌, length, Option}
-use Rattle.std.specs.Iterator.{Yields}
+use Rattle.std.specs.Prelude.{◌≡◌, ℕ, ◌+◌, ◌-◌, ◌≤◌, ◌++◌, List, [], ◌∷◌, length, Bool, Option, None}
+use Rattle.std.specs.Bool.{MatchBool}
+use Rattle.std.specs.Iterator.{Count, IsFinite, size, Yields, YieldsThen}
 use Rattle.std.specs.declared.cmp.Ordering.{Ordering}
 use Rattle.dary_heap.specs.Bag.{IsSameBag}
 use Rattle.dary_heap.specs.Bounds.{RisesWithin, mend_bound}
@@ -13,6 +14,10 @@ pub record IsRefusedAfter {S A : Type 0} (steps : S → Option A → S → Type 
   pub left : S
   pub gave : Yields steps from (xs ++ refused ∷ []) left
   pub full : capacity ≤ len + length xs
+
+-- an iterator gave xs, and then none where it ended; otherwise it may go on
+abbrev pub IsPoured : {S A : Type 0} → (S → Type 0) → (S → Count) → (S → Option A → S → Type 0) → S → List A → Bool → S → Type 0
+IsPoured can left steps from xs ended to = MatchBool ended (YieldsThen steps from xs None to) (Yields steps from xs to × can to × IsFinite (left to) × (length xs + size (left to) ≤ size (left from)))
 
 -- new has the items of old and xs
 pub record IsExtended {T : Type 0} (cmp : T → T → Ordering) (D : ℕ) (old : Contents T) (xs : List T) (new : Contents T) : Type 0 where

@@ -1,16 +1,18 @@
 //! Many items that come into a heap at once.
 ghost use Rattle.std.specs.Prelude.{◌≡◌, ◌+◌, ◌-◌, ◌<◌, ◌≤◌, ◌++◌, [], ◌∷◌, length, min, List, map, vec_len, vec_capacity, IsOk, OnOk, OnErr, MatchResult, ⊤};
+ghost use Rattle.std.specs.Bool.{OnFalse};
 ghost use Rattle.std.specs.Iterator.{ExtendsWithItems, Drains, HoldsAlong, IsFinite};
 ghost use Rattle.std.specs.Borrow.{Bor};
 ghost use Rattle.dary_heap.specs.Appending.{receiving_capacity, moving_capacity};
 ghost use Rattle.dary_heap.specs.Bag.{IsSameBag};
 ghost use Rattle.dary_heap.specs.Bounds.{RisesWithin, mend_bound};
 ghost use Rattle.dary_heap.specs.Contents.{Contents};
-ghost use Rattle.dary_heap.specs.Extending.{IsExtended, IsRefusedAfter};
+ghost use Rattle.dary_heap.specs.Extending.{IsExtended, IsPoured, IsRefusedAfter};
 ghost use Rattle.dary_heap.specs.HeapOrder.{IsHeapOrdered};
 
 use super::DaryHeap;
 use crate::sift::{ByOrd, mend_with};
+use core::mem::replace_with;
 use std::alloc::AllocError;
 use std::mem;
 
@@ -100,19 +102,66 @@ impl<'a, T: Copy> Element<T> for &'a T {
     }
 }
 
-/// Pushes what the iterator gives, in its order, up to the first item that there is no memory for.
-fn push_all<T: Drop, X: Element<T>, U: IntoIterator<Item = X>>(
-    items: &mut Vec<T>,
-    iter: U,
-) -> Result<(), AllocError>
-    requires { (it : U.IntoIter) → U.into_iter_gives iter it → U.IntoIter.can_next it × IsFinite (U.IntoIter.remaining it) }
-    ensures came { (it : U.IntoIter) × (xs : List X) × U.into_iter_gives iter it × (items.new.items ≡ items.old.items ++ map X.value xs) × MatchResult result (λ _. Drains U.IntoIter.next_gives it xs) (λ _. IsRefusedAfter U.IntoIter.next_gives it xs (vec_len items.old) (vec_capacity items.old)) }
+/// Puts what the iterator gives behind the items while there is room, and answers whether it ended.
+///
+/// The vector comes by value, which keeps its length in a register.
+fn pour<T, X: Element<T>, I: Iterator<Item = X>>(
+    mut items: Vec<T>,
+    mut rest: I,
+) -> (Vec<T>, (I, bool))
+    requires { I.can_next rest × IsFinite (I.remaining rest) }
+    ensures came { (xs : List X) × (result.0.items ≡ items.items ++ map X.value xs) × (vec_len result.0 ≡ vec_len items + length xs) × IsPoured I.can_next I.remaining I.next_gives rest xs result.1.1 result.1.0 }
+    ensures full { OnFalse result.1.1 (vec_len result.0 ≡ vec_capacity result.0) }
+    ensures capacity { vec_capacity result.0 ≡ vec_capacity items }
+{
+    while items.len() < items.capacity() {
+        let Some(element) = rest.next() else {
+            return (items, (rest, true));
+        };
+        items.push_reserved(element.into_item());
+    }
+    (items, (rest, false))
+}
+
+/// Makes room for one item more and, where there is memory for them, for `others` beyond.
+///
+/// So many needn't come, so want of memory for them is no refusal yet.
+fn make_room<T>(items: &mut Vec<T>, others: usize) -> Result<(), AllocError>
+    ensures items { items.new.items ≡ items.old.items }
+    ensures len { vec_len items.new ≡ vec_len items.old }
+    ensures room { OnOk result (vec_len items.new < vec_capacity items.new) }
     ensures capacity { vec_capacity items.old ≤ vec_capacity items.new }
 {
-    for element in iter {
-        items.push(element.into_item())?;
+    if others > 0 && items.reserve(others.saturating_add(1)).is_ok() {
+        return Ok(());
     }
-    Ok(())
+    items.reserve(1)
+}
+
+/// Pushes what the iterator gives, in its order, up to the first item that there is no memory for.
+///
+/// Where the room is used up it reserves for as many as the iterator has left at least.
+fn push_all<T: Drop, X: Element<T>, I: Iterator<Item = X>>(
+    items: &mut Vec<T>,
+    iter: I,
+) -> Result<(), AllocError>
+    requires { I.can_next iter × IsFinite (I.remaining iter) }
+    ensures came { (xs : List X) × (items.new.items ≡ items.old.items ++ map X.value xs) × MatchResult result (λ _. Drains I.next_gives iter xs) (λ _. IsRefusedAfter I.next_gives iter xs (vec_len items.old) (vec_capacity items.old)) }
+    ensures capacity { vec_capacity items.old ≤ vec_capacity items.new }
+{
+    let mut rest = iter;
+    loop {
+        let (left, ended) = replace_with(items, rest, pour::<T, X, I>);
+        rest = left;
+        if ended {
+            return Ok(());
+        }
+        let Some(element) = rest.next() else {
+            return Ok(());
+        };
+        make_room(items, rest.size_hint().0)?;
+        items.push_reserved(element.into_item());
+    }
 }
 
 /// Pushes what the iterator gives, up to the first item that there is no memory for, and mends.
@@ -125,6 +174,7 @@ fn extend_heap<T: Ord + Drop, X: Element<T>, U: IntoIterator<Item = X>, const D:
     ensures refused { OnErr result ((it : U.IntoIter) × (xs : List X) × U.into_iter_gives iter it × IsRefusedAfter U.IntoIter.next_gives it xs (length heap.old.items) heap.old.capacity × IsExtended T.cmp D heap.old (map X.value xs) heap.new) }
 {
     let start = heap.items.len();
+    let iter = iter.into_iter();
     let outcome = push_all(&mut heap.items, iter);
     mend_with::<T, ByOrd, D>(heap.items.as_mut_slice(), start, &mut heap.judge);
     outcome

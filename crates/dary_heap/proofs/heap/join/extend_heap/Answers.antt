@@ -9,8 +9,8 @@ use Rattle.dary_heap.proofs.heap.join.extend_heap.Goals.{After-mend_with}
 use Rattle.dary_heap.proofs.heap.join.extend_heap.Goals as goal
 
 -- the slice before it is mended
-behind : (g : Over) (c : After-mend_with g) → c.as_mut_slice.result.now ≡ c.heap.inside.items.items ++ map g.X.Element.value c.push_all-outcome.ensures.came.1
-behind g c = c.as_mut_slice.ensures.value ∙ c.push_all-outcome.ensures.came.3
+behind : (g : Over) (c : After-mend_with g) → c.as_mut_slice.result.now ≡ c.heap.inside.items.items ++ map g.X.Element.value c.push_all-outcome.ensures.came.0
+behind g c = c.as_mut_slice.ensures.value ∙ c.push_all-outcome.ensures.came.1
 
 -- mending keeps the length
 all : (g : Over) (c : After-mend_with g) → length c.mend_with.new.items ≡ c.push_all-outcome.new.items.len
@@ -24,7 +24,7 @@ ordered g c =
     c.mend_with.ensures.ordered (subst (IsHeapOrdered g.T.Ord.cmp g.row.D) (sym front) c.heap.invariant)
 
 -- what came in is taken into the heap
-taken : (g : Over) (c : After-mend_with g) → IsExtended g.T.Ord.cmp g.row.D (record { items = c.heap.inside.items.items; capacity = vec_capacity c.heap.inside.items; comparisons = c.heap.inside.judge }) (map g.X.Element.value c.push_all-outcome.ensures.came.1) (record { items = c.mend_with.new.items; capacity = vec_capacity c.push_all-outcome.new.items; comparisons = c.mend_with.new.judge })
+taken : (g : Over) (c : After-mend_with g) → IsExtended g.T.Ord.cmp g.row.D (record { items = c.heap.inside.items.items; capacity = vec_capacity c.heap.inside.items; comparisons = c.heap.inside.judge }) (map g.X.Element.value c.push_all-outcome.ensures.came.0) (record { items = c.mend_with.new.items; capacity = vec_capacity c.push_all-outcome.new.items; comparisons = c.mend_with.new.judge })
 taken g c = mended _ _ _ _ c.len-start.result (behind g c) (omega arith) (omega arith) c.mend_with.ensures.bag c.mend_with.ensures.unchanged (ordered g c) c.mend_with.ensures.counted c.push_all-outcome.ensures.capacity
 
 -- the heap is ordered at the end
@@ -37,10 +37,10 @@ pub returns-clause-refused : goal.returns-clause-refused
 returns-clause-refused g c =
     let k = c.push_all-outcome.ensures.came in
     let here = (goal.at.returns-clause-refused g c).After-mend_with in
-    rw (← c.heap.view_is) (MatchResult-weaker c.push_all-outcome.result k.4 (λ u drains. tt) (λ e refusal. (
+    rw (← c.heap.view_is) (MatchResult-weaker c.push_all-outcome.result k.2 (λ u drains. tt) (λ e refusal. (
+      c.into_iter-iter.result,
       k.0,
-      k.1,
-      k.2,
+      c.into_iter-iter.ensures.into_iter_gives,
       record { refused = refusal.refused; left = refusal.left; gave = refusal.gave; full = omega (arith, refusal.full) },
       rw (written_back _ _ _ (all g here)) (taken g here),
     )))
@@ -51,9 +51,9 @@ returns-clause-ran g c =
     let k = c.push_all-outcome.ensures.came in
     let here = (goal.at.returns-clause-ran g c).After-mend_with in
     rw (← c.heap.view_is) (
+      c.into_iter-iter.result,
       k.0,
-      k.1,
-      k.2,
+      c.into_iter-iter.ensures.into_iter_gives,
       rw (written_back _ _ _ (all g here)) (taken g here),
-      MatchResult-weaker c.push_all-outcome.result k.4 (λ u drains. drains) (λ e refused. Yields-front g.U.IntoIter.Iterator.next_gives k.0 k.1 refused.refused refused.left refused.gave),
+      MatchResult-weaker c.push_all-outcome.result k.2 (λ u drains. drains) (λ e refused. Yields-front g.U.IntoIter.Iterator.next_gives c.into_iter-iter.result k.0 refused.refused refused.left refused.gave),
     )

@@ -1,22 +1,65 @@
-use Rattle.std.proofs.Common.{◌∙◌, arith}
-use Rattle.std.proofs.iter.Next.{Yields-more}
+use Rattle.std.proofs.Common.{◌≡◌, ◌++◌, [], ◌∷◌, vec_len, vec_capacity, sym, ap, ◌∙◌, subst, arith, append-nil, length-append}
+use Rattle.std.proofs.iter.Next.{begun, again, less, drained, if_yes, if_no, said, Yields-more}
 use Rattle.std.proofs.lemmas.Result.{err_from_is_err_and}
+use Rattle.std.specs.Bool.{OnFalse}
+use Rattle.dary_heap.proofs.Extending.{came_both, ran_dry, ran_on}
 use Rattle.dary_heap.proofs.heap.join.push_all.Goals as goal
 
-pub returns-in_err-push-clause-came : goal.returns-in_err-push-clause-came
-returns-in_err-push-clause-came g c =
-    let it = c.into_iter-element-iterator in
-    let before = c.loop-element in
+pub loop-rest-init : goal.loop-rest-init
+loop-rest-init g c = begun c.requires.0 c.requires.1 (sym (append-nil _), omega arith, omega arith)
+
+pub replace_with-left-requires : goal.replace_with-left-requires
+replace_with-left-requires g c = (c.loop-rest.invariant.callable, c.loop-rest.invariant.ending)
+
+pub returns-then-ended-clause-came : goal.returns-then-ended-clause-came
+returns-then-ended-clause-came g c =
+    let ran = c.loop-rest.invariant in
+    let came = c.replace_with-left.ensures.0 in
+    (ran.seen ++ came.0, came_both _ _ _ _ ran.seen came.0 ran.holds.0 came.1, ran_dry g.I.Iterator.remaining ran came.0 _ (if_yes _ _ c.if-ended.true came.3))
+
+pub returns-in_default-clause-came : goal.returns-in_default-clause-came
+returns-in_default-clause-came g c =
+    let ran = c.loop-rest.invariant in
+    let came = c.replace_with-left.ensures.0 in
+    let on = ran_on g.I.Iterator.remaining ran came.0 _ {Q = λ _. Unit {0}} (if_no _ _ c.if-ended.false came.3) tt in
+    (ran.seen ++ came.0, came_both _ _ _ _ ran.seen came.0 ran.holds.0 came.1, drained on c.in_default.is c.next.ensures.steps)
+
+pub returns-in_err-make_room-clause-came : goal.returns-in_err-make_room-clause-came
+returns-in_err-make_room-clause-came g c =
+    let ran = c.loop-rest.invariant in
+    let came = c.replace_with-left.ensures.0 in
+    let on = ran_on g.I.Iterator.remaining ran came.0 _ {Q = λ _. Unit {0}} (if_no _ _ c.if-ended.false came.3) tt in
+    let full : vec_len c.replace_with-left.new.dest ≡ vec_capacity c.replace_with-left.new.dest = subst (λ b. OnFalse b (vec_len c.replace_with-left.new.dest ≡ vec_capacity c.replace_with-left.new.dest)) c.if-ended.false c.replace_with-left.ensures.1.0 in
     let p = err_from_is_err_and c.from_residual.result c.from_residual.ensures.1 in
     rw p.1 (
-      it.result,
-      before.yielded,
-      it.ensures.into_iter_gives,
-      c.in_err-push.ensures.items ∙ before.invariant.items,
+      ran.seen ++ came.0,
+      c.make_room.ensures.items ∙ came_both _ _ _ _ ran.seen came.0 ran.holds.0 came.1,
       record {
         refused = c.in-Some.element;
         left = c.next.new.self;
-        gave = Yields-more g.U.IntoIter.Iterator.next_gives it.result before.yielded before.element-iterator c.in-Some.element c.next.new.self before.yielded_by c.in-Some.ensures.steps;
-        full = omega (arith, c.in_err-push.ensures.full, before.invariant.len, before.invariant.capacity);
+        gave = Yields-more g.I.Iterator.next_gives _ on.seen _ c.in-Some.element c.next.new.self on.gave (said g.I.Iterator.next_gives c.in-Some.is c.next.ensures.steps);
+        full = omega (arith, full, c.replace_with-left.ensures.1.1, came.2, ran.holds.1, ran.holds.2, length-append ran.seen came.0);
       },
+    )
+
+pub loop-rest-smaller : goal.loop-rest-smaller
+loop-rest-smaller g c =
+    let ran = c.loop-rest.invariant in
+    let came = c.replace_with-left.ensures.0 in
+    let gave = if_no _ _ c.if-ended.false came.3 in
+    let on = ran_on g.I.Iterator.remaining ran came.0 _ {Q = λ _. Unit {0}} gave tt in
+    omega (arith, gave.3, less on c.in-Some.element c.in-Some.is c.next.ensures.goes)
+
+pub loop-rest-preserved : goal.loop-rest-preserved
+loop-rest-preserved g c =
+    let ran = c.loop-rest.invariant in
+    let came = c.replace_with-left.ensures.0 in
+    let x = c.in-Some.element in
+    let on = ran_on g.I.Iterator.remaining ran came.0 _ {Q = λ _. Unit {0}} (if_no _ _ c.if-ended.false came.3) tt in
+    let before = c.make_room.ensures.items ∙ came_both g.X.Element.value _ _ _ ran.seen came.0 ran.holds.0 came.1 in
+    let more = c.push_reserved.ensures.items ∙ ap (λ y. c.make_room.new.items.items ++ y ∷ []) c.into_item.ensures in
+    again on x c.in-Some.is (c.next.ensures.steps, c.next.ensures.goes) (
+      came_both g.X.Element.value _ _ _ (ran.seen ++ came.0) (x ∷ []) before more,
+      omega (arith, c.push_reserved.ensures.len, c.make_room.ensures.len, came.2, ran.holds.1, length-append ran.seen came.0, length-append (ran.seen ++ came.0) (x ∷ [])),
+      omega (arith, c.push_reserved.ensures.capacity, c.make_room.ensures.capacity, c.replace_with-left.ensures.1.1, ran.holds.2),
     )
