@@ -1,7 +1,7 @@
-//! Tests of the priority queue: worked examples, outside vectors, and each call at extremes.
+//! Tests of the priority queue: worked examples and outside vectors.
 //!
 //! Each expected value comes from the description of the queue, or from the Rust crate `dary_heap`,
-//! and never from this crate's own answers. Random runs stand in `dary_heap_random_tests`.
+//! and never from this crate's own answers. Random runs and extremes stand in the folder `trials`.
 #![tactic(auto)]
 
 #[cfg(test)]
@@ -14,8 +14,6 @@ mod commands;
 mod depths;
 #[cfg(test)]
 mod drops;
-#[cfg(test)]
-mod extremes;
 #[cfg(test)]
 mod filters;
 #[cfg(test)]
@@ -33,7 +31,5 @@ pub mod roads;
 mod rooms;
 #[cfg(test)]
 mod sifts;
-#[cfg(test)]
-mod sizes;
 #[cfg(test)]
 mod types;
