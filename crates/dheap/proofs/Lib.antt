@@ -1,6 +1,7 @@
 pub mod Bounds
-pub mod Saying
+pub mod Decimals
+pub mod Joined
+pub mod Numerals
+pub mod Parting
 pub mod Scripts
-pub mod Signed
 pub mod Written
-pub mod Yielding

@@ -41,3 +41,13 @@ all-passed None b c left told p e q = tt
 all-passed (Some x) None c left told p e q = absurd p
 all-passed (Some x) (Some y) None left told p e q = absurd q
 all-passed (Some x) (Some y) (Some z) left told p e q = q ∙ sym (append-nil y) ∙ ap (λ l. y ++ l) (sym e) ∙ p
+
+pub nothing_told : (a : Option (List ℕ)) → Appends a a []
+nothing_told None = tt
+nothing_told (Some x) = sym (append-nil x)
+
+pub told_more : (a b c : Option (List ℕ)) (told says : List ℕ) → Appends a b told → Appends b c says → Appends a c (told ++ says)
+told_more None b c told says p q = tt
+told_more (Some x) None c told says p q = absurd p
+told_more (Some x) (Some y) None told says p q = absurd q
+told_more (Some x) (Some y) (Some z) told says p q = q ∙ ap (λ l. l ++ says) p ∙ append_assoc x told says

@@ -1,5 +1,5 @@
 -- What the lines of a script say.
-use Rattle.std.specs.Prelude.{◌≡◌, ◌==◌, ◌||◌, ◌++◌, ◌+◌, not, ℕ, ℤ, Bool, List, [], ◌∷◌, length, filter, codes, Option, None, Some}
+use Rattle.std.specs.Prelude.{◌≡◌, ◌==◌, ◌||◌, ◌++◌, ◌+◌, not, ℕ, ℤ, Bool, true, false, List, [], ◌∷◌, length, filter, codes, Option, None, Some}
 use Rattle.std.specs.List.{slice_split}
 use Rattle.std.specs.Str.Parse.{digits_value, signed_digits_value, without_leading_plus}
 use denote.Ref.{Bor}
@@ -44,6 +44,11 @@ Says words (Test n) = IsWithNumber words (codes "test") n
 Says words (PopIf n) = IsWithNumber words (codes "popif") n
 Says words (Keep n) = IsWithNumber words (codes "keep") n
 Says words (Sorted n) = IsWithCount words (codes "sorted") n
+
+-- the line is not blank
+abbrev pub has_command : Line → Bool
+has_command Blank = false
+has_command line = true
 
 -- each of these lines says this
 abbrev pub Say : List (List ℕ) → List Line → Type 0

@@ -1,11 +1,12 @@
 //! One run of the program, over any streams.
-ghost use Rattle.std.specs.Prelude.{◌≡◌, ◌≢◌, ◌+◌, ◌<◌, ◌≤◌, ◌↔◌, ◌++◌, ◌∷◌, ℕ, List, [], All, map, codes, is_some, option_to_list, string_bytes, true, IfOk, IfSome, IfErr, OnOk, MatchOption};
+ghost use Rattle.std.specs.Prelude.{◌≡◌, ◌≢◌, ◌+◌, ◌<◌, ◌≤◌, ◌↔◌, ◌++◌, ◌∷◌, ℕ, List, [], All, map, codes, is_some, option_to_list, string_bytes, true, drop, IfOk, IfSome, IfErr, OnOk, MatchOption, filter};
+ghost use Rattle.std.specs.Fmt.{decimal, sign_text};
 ghost use Rattle.std.specs.Io.KnownBytes.{Appends, Keeps, IsAtEnd};
 ghost use Rattle.dary_heap.specs.Reading as read;
 ghost use Rattle.dheap.specs.Answers.{answer, line, listing, text};
 ghost use Rattle.dheap.specs.Faults.{status_of};
-ghost use Rattle.dheap.specs.Program.{MayPrint};
-ghost use Rattle.dheap.specs.Script.{CarryOut, CarryOutLine, IsFirstBad, Say, Says, lines_left, lines_of, words_of};
+ghost use Rattle.dheap.specs.Program.{MayPrintFrom, MayPrint};
+ghost use Rattle.dheap.specs.Script.{CarryOut, CarryOutLine, IsFirstBad, Say, has_command, lines_left, lines_of};
 ghost use Rattle.dheap.specs.Words.{IsArity};
 ghost use Rattle.dheap.specs.declared.serve.fault.Fault.TheVariants.{BadLine};
 ghost use Rattle.dheap.specs.declared.serve.line.Line.{Line};
@@ -19,12 +20,18 @@ use dary_heap::DaryHeap;
 use dary_heap::run::{Command, Reply, run};
 use fault::Fault;
 use line::Line;
-use std::alloc::Global;
+use std::alloc::{AllocError, Global};
 use std::io;
 use std::io::{Read, Write};
 
 /// From so many bytes on, answers are not held back.
 const HELD: usize = 1 << 13;
+
+/// The longest line of a number is a sign, 20 digits and a line feed.
+const LONGEST: usize = 22;
+
+/// So many commands are made, run and answered at once.
+const AT_ONCE: usize = 1 << 10;
 
 /// Carries out the commands that `input` holds, writes the answers to `output`, and answers the status
 /// that the program ends with.
@@ -113,41 +120,39 @@ fn answer<W: Write, const D: usize>(
     ensures printed { OnOk result ((printed : List ℕ) × MayPrint script.now printed × Appends (W.contents output.old) (W.contents output.new) printed) }
     ensures silent { IfErr result (λ fault. status_of fault < 3 → Keeps (W.contents output.old) (W.contents output.new)) }
 {
-    let commands = commands(alloc, script, |bound: i64| move |item: &i64| *item >= bound)?;
+    let lines = lines(alloc, script)?;
     let mut heap = DaryHeap::<i64, D>::new(alloc);
-    match run(alloc, &mut heap, commands) {
-        Ok(replies) => write_replies(alloc, replies.as_slice(), output),
-        Err(_) => Err(Fault::NoMemory),
+    let mut rest = lines.as_slice();
+    while !rest.is_empty() {
+        let (here, after) = rest.split_at(rest.len().min(AT_ONCE));
+        answer_lines(alloc, here, &mut heap, output)?;
+        rest = after;
     }
+    Ok(())
 }
 
-/// The commands of a script, with the predicates that `at_least` makes of bounds.
-fn commands<const D: usize, P: FnMut(&i64) -> bool + Drop, F: Fn(i64) -> P>(
-    alloc: Global,
-    script: &[u8],
-    at_least: F,
-) -> Result<Vec<Command<i64, D, P>>, Fault>
-    requires { F.IsAlwaysCallable at_least }
-    ensures said { IfOk result (λ commands. (lines : List Line) × Say (lines_of script.now) lines × CarryOut (λ n p. F.post at_least n p) (read.commands commands.items) lines) }
+/// The lines of a script that are not blank.
+fn lines(alloc: Global, script: &[u8]) -> Result<Vec<Line>, Fault>
+    ensures said { IfOk result (λ kept. (lines : List Line) × Say (lines_of script.now) lines × (kept.items ≡ filter has_command lines)) }
     ensures fault { IfErr result (λ fault. status_of fault ≢ 2) }
     ensures bad { IfErr result (λ fault. status_of fault ≡ 1 → (number : ℕ) × (fault ≡ BadLine number) × IsFirstBad (lines_of script.now) number) }
 {
-    let mut commands = Vec::new(alloc);
+    let mut kept = Vec::new(alloc);
     let mut rest = Some(script);
     for number in 1..u64::MAX {
         let Some(here) = rest else {
             break;
         };
-        let (line, after) = first_line(here);
-        let Some(command) = command(line, &at_least) else {
+        let (text, after) = first_line(here);
+        let Some(line) = Line::parse(text) else {
             return Err(Fault::BadLine(number));
         };
-        if let Some(command) = command {
-            commands.push(command)?;
+        if line.has_command() {
+            kept.push(line)?;
         }
         rest = after;
     }
-    Ok(commands)
+    Ok(kept)
 }
 
 /// The first line, and what comes after its line feed.
@@ -160,23 +165,58 @@ fn first_line(script: &[u8]) -> (&[u8], Option<&[u8]>)
     }
 }
 
-/// The command of a line, unless it is bad. A blank line has none.
-fn command<const D: usize, P: FnMut(&i64) -> bool, F: Fn(i64) -> P>(
-    line: &[u8],
-    at_least: &F,
-) -> Option<Option<Command<i64, D, P>>>
-    requires { F.IsAlwaysCallable at_least.now }
-    ensures { MatchOption result ((said : Line) → ¬ (Says (words_of line.now) said)) (λ command. (said : Line) × Says (words_of line.now) said × CarryOutLine (λ n p. F.post at_least.now n p) (map read.command (option_to_list command)) said) }
+/// Runs the commands of lines on a heap, and writes the answers.
+fn answer_lines<W: Write, const D: usize>(
+    alloc: Global,
+    lines: &[Line],
+    heap: &mut DaryHeap<i64, D>,
+    output: &mut W,
+) -> Result<(), Fault>
+    ensures fault { IfErr result (λ fault. 3 ≤ status_of fault) }
+    ensures printed { OnOk result ((printed : List ℕ) × MayPrintFrom heap.old.items lines.now printed heap.new.items × Appends (W.contents output.old) (W.contents output.new) printed) }
 {
-    match Line::parse(line)? {
-        Line::Blank => Some(None),
-        Line::Push(item) => Some(Some(Command::Push(item))),
-        Line::Pop => Some(Some(Command::Pop)),
-        Line::Len => Some(Some(Command::Len)),
-        Line::Test(bound) => Some(Some(Command::Ask(at_least(bound)))),
-        Line::PopIf(bound) => Some(Some(Command::PopIf(at_least(bound)))),
-        Line::Keep(bound) => Some(Some(Command::Retain(at_least(bound)))),
-        Line::Sorted(count) => Some(Some(Command::DrainSorted(count))),
+    let commands = commands(alloc, lines, |bound: i64| move |item: &i64| *item >= bound)?;
+    match run(alloc, heap, commands) {
+        Ok(replies) => write_replies(alloc, replies.as_slice(), output),
+        Err(_) => Err(Fault::NoMemory),
+    }
+}
+
+/// The commands of lines, with the predicates that `at_least` makes of bounds.
+fn commands<const D: usize, P: FnMut(&i64) -> bool + Drop, F: Fn(i64) -> P>(
+    alloc: Global,
+    lines: &[Line],
+    at_least: F,
+) -> Result<Vec<Command<i64, D, P>>, AllocError>
+    requires { F.IsAlwaysCallable at_least }
+    ensures { IfOk result (λ commands. CarryOut (λ n p. F.post at_least n p) (read.commands commands.items) lines.now) }
+{
+    let mut commands = Vec::with_capacity(alloc, lines.len())?;
+    for line in lines {
+        if let Some(command) = command(*line, &at_least) {
+            commands.push(command)?;
+        }
+    }
+    Ok(commands)
+}
+
+/// The command of a line. A blank line has none.
+fn command<const D: usize, P: FnMut(&i64) -> bool, F: Fn(i64) -> P>(
+    line: Line,
+    at_least: &F,
+) -> Option<Command<i64, D, P>>
+    requires { F.IsAlwaysCallable at_least.now }
+    ensures { CarryOutLine (λ n p. F.post at_least.now n p) (map read.command (option_to_list result)) line }
+{
+    match line {
+        Line::Blank => None,
+        Line::Push(item) => Some(Command::Push(item)),
+        Line::Pop => Some(Command::Pop),
+        Line::Len => Some(Command::Len),
+        Line::Test(bound) => Some(Command::Ask(at_least(bound))),
+        Line::PopIf(bound) => Some(Command::PopIf(at_least(bound))),
+        Line::Keep(bound) => Some(Command::Retain(at_least(bound))),
+        Line::Sorted(count) => Some(Command::DrainSorted(count)),
     }
 }
 
@@ -223,16 +263,47 @@ fn write_reply<W: Write, const D: usize>(reply: &Reply<i64, D>, output: &mut W) 
     ensures written { OnOk result (Appends (W.contents output.old) (W.contents output.new) (line (answer (read.reply reply.now)))) }
 {
     match reply {
-        Reply::Pushed | Reply::Done => writeln!(output, "ok")?,
-        Reply::Popped(Some(item)) => writeln!(output, "{item}")?,
-        Reply::Popped(None) | Reply::Asked(None) => writeln!(output, "none")?,
-        Reply::Asked(Some(true)) => writeln!(output, "yes")?,
-        Reply::Asked(Some(false)) => writeln!(output, "no")?,
-        Reply::Len(count) => writeln!(output, "{count}")?,
+        Reply::Pushed | Reply::Done => output.write_all(b"ok\n")?,
+        Reply::Popped(Some(item)) => write_number(*item < 0, item.unsigned_abs(), output)?,
+        Reply::Popped(None) | Reply::Asked(None) => output.write_all(b"none\n")?,
+        Reply::Asked(Some(true)) => output.write_all(b"yes\n")?,
+        Reply::Asked(Some(false)) => output.write_all(b"no\n")?,
+        Reply::Len(count) => write_number(false, *count as u64, output)?,
         Reply::Taken(items) => write_items(items.as_slice(), output)?,
         _ => return Ok(false),
     }
     Ok(true)
+}
+
+/// Writes the line of a number, after a minus if it is negative.
+fn write_number<W: Write>(negative: bool, size: u64, output: &mut W) -> io::Result<()>
+    ensures { OnOk result (Appends (W.contents output.old) (W.contents output.new) (sign_text negative ++ decimal size ++ codes "\n")) }
+{
+    let mut line = [b'\n'; LONGEST];
+    let digits = put_digits(size, &mut line);
+    if !negative {
+        return output.write_all(&line[digits..]);
+    }
+    line[digits - 1] = b'-';
+    output.write_all(&line[digits - 1..])
+}
+
+/// Puts the digits of a number before the last byte of a line, and answers where they begin.
+fn put_digits(size: u64, line: &mut [u8; LONGEST]) -> usize
+    ensures low { 0 < result }
+    ensures high { result < 22 }
+    ensures put { drop result line.new ≡ decimal size ++ drop 21 line.old }
+{
+    let mut begin = LONGEST - 1;
+    let mut rest = size;
+    while rest >= 10 {
+        begin -= 1;
+        line[begin] = b'0' + (rest % 10) as u8;
+        rest /= 10;
+    }
+    begin -= 1;
+    line[begin] = b'0' + rest as u8;
+    begin
 }
 
 /// Writes the line of a listing.
@@ -240,11 +311,11 @@ fn write_items<W: Write>(items: &[i64], output: &mut W) -> io::Result<()>
     ensures { OnOk result (Appends (W.contents output.old) (W.contents output.new) (listing items.now ++ codes "\n")) }
 {
     let Some((first, rest)) = items.split_first() else {
-        return writeln!(output, "none");
+        return output.write_all(b"none\n");
     };
     write!(output, "{first}")?;
     for item in rest {
         write!(output, " {item}")?;
     }
-    writeln!(output)
+    output.write_all(b"\n")
 }

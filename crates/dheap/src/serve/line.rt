@@ -1,11 +1,10 @@
 //! The lines of a script.
-ghost use Rattle.std.specs.Prelude.{[], ◌∷◌, MatchOption, SomeIff};
-ghost use Rattle.std.specs.Str.Parse.{digits_value, signed_digits_value, without_leading_plus};
-ghost use Rattle.dheap.specs.Script.{Says, words_of};
+ghost use Rattle.std.specs.Prelude.{◌≡◌, ◌+◌, ◌-◌, ◌*◌, ◌^◌, ◌<◌, [], ◌∷◌, MatchOption, SomeIff};
+ghost use Rattle.std.specs.Int.{IsInRange};
+ghost use Rattle.std.specs.Str.Parse.{IsNumeral, digits_value, signed_digits_value, without_leading_plus};
+ghost use Rattle.dheap.specs.Script.{Says, has_command, is_blank, words_of};
 ghost use Rattle.dheap.specs.Words.{IsCount, IsNumber};
 ghost use Rattle.dheap.specs.declared.serve.line.Line.{Line};
-
-use std::str;
 
 /// A good line.
 #[derive(Clone, Copy, Debug, PartialEq, Eq)]
@@ -33,20 +32,45 @@ impl Line {
     pub fn parse(line: &[u8]) -> Option<Line>
         ensures { MatchOption result ((l : Line) → ¬ (Says (words_of line.now) l)) (Says (words_of line.now)) }
     {
-        let mut words = line
-            .split(|byte| matches!(*byte, b' ' | b'\t' | b'\r'))
-            .filter(|word| !word.is_empty());
-        let Some(name) = words.next() else {
+        let Some((name, after)) = first_word(line) else {
             return Some(Line::Blank);
         };
-        let Some(argument) = words.next() else {
+        let Some((argument, after)) = first_word(after) else {
             return alone(name);
         };
-        if words.next().is_some() {
+        if first_word(after).is_some() {
             return None;
         }
         with_argument(name, argument)
     }
+
+    /// Whether it has a command.
+    pub fn has_command(self) -> bool
+        ensures { result ≡ has_command self }
+    {
+        !matches!(self, Line::Blank)
+    }
+}
+
+/// The first word, and what comes after it, if there is a word.
+fn first_word(line: &[u8]) -> Option<(&[u8], &[u8])>
+    ensures { MatchOption result (words_of line.now ≡ []) (λ found. words_of line.now ≡ found.0.now ∷ words_of found.1.now) }
+{
+    let Some(start) = line.iter().position(|byte| !is_blank(*byte)) else {
+        return None;
+    };
+    let word = &line[start..];
+    match word.iter().position(|byte| is_blank(*byte)) {
+        Some(end) => Some((&word[..end], &word[end + 1..])),
+        None => Some((word, &[])),
+    }
+}
+
+/// Whether a byte parts words.
+fn is_blank(byte: u8) -> bool
+    ensures { result ≡ is_blank byte }
+{
+    matches!(byte, b' ' | b'\t' | b'\r')
 }
 
 /// Reads a line of one word.
@@ -78,18 +102,52 @@ fn with_argument(name: &[u8], argument: &[u8]) -> Option<Line>
 fn number(word: &[u8]) -> Option<i64>
     ensures { SomeIff result (IsNumber word.now) (signed_digits_value 10 word.now) }
 {
-    let Ok(text) = str::from_utf8(word) else {
-        return None;
-    };
-    text.parse().ok()
+    if let [b'-', digits @ ..] = word {
+        return 0i64.checked_sub_unsigned(natural(digits)?);
+    }
+    0i64.checked_add_unsigned(natural(without_plus(word))?)
 }
 
 /// The count that a word writes, if it does.
 fn count(word: &[u8]) -> Option<usize>
     ensures { SomeIff result (IsCount word.now) (digits_value 10 (without_leading_plus word.now)) }
 {
-    let Ok(digits) = str::from_utf8(word) else {
+    Some(natural(without_plus(word))? as usize)
+}
+
+/// What comes after a plus, or all where none stands first.
+fn without_plus(word: &[u8]) -> &[u8]
+    ensures { result.now ≡ without_leading_plus word.now }
+{
+    match word {
+        [b'+', rest @ ..] => rest,
+        _ => word,
+    }
+}
+
+/// The number that decimal digits write, if there are only such, at least one, and it is in range.
+fn natural(digits: &[u8]) -> Option<u64>
+    ensures { SomeIff result (IsNumeral 10 digits.now × (digits_value 10 digits.now < 2 ^ 64)) (digits_value 10 digits.now) }
+{
+    if digits.is_empty() {
         return None;
-    };
-    digits.parse().ok()
+    }
+    let mut number = 0;
+    for digit in digits {
+        let Some(more) = with_digit(number, *digit) else {
+            return None;
+        };
+        number = more;
+    }
+    Some(number)
+}
+
+/// The number that one more digit makes of a number, if it is a digit and the number is in range.
+fn with_digit(number: u64, digit: u8) -> Option<u64>
+    ensures { SomeIff result (IsInRange 48 57 digit × (number * 10 + (digit - 48) < 2 ^ 64)) (number * 10 + (digit - 48)) }
+{
+    if !digit.is_ascii_digit() {
+        return None;
+    }
+    number.checked_mul(10)?.checked_add(u64::from(digit - b'0'))
 }

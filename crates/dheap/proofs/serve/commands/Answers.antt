@@ -1,37 +1,22 @@
-use Rattle.std.proofs.Common.{rules, ◌==◌, [], ◌∷◌, ◌++◌, refl, sym, ap, subst, ◌∙◌, arith, append_assoc, append-nil, length, map, option_to_list}
-use Rattle.std.proofs.lemmas.List.{length-append, map-append}
+use Rattle.std.proofs.Common.{[], ◌∷◌, ◌++◌, sym, ap, subst, ◌∙◌, arith, append-nil, map, option_to_list}
+use Rattle.std.proofs.lemmas.List.{map-append, take_all}
 use Rattle.dary_heap.specs.Reading as read
-use Rattle.dheap.specs.Script.{Say, lines_left}
-use Rattle.dheap.proofs.Scripts.{Say-append, CarryOut-more, few_lines}
-use Rattle.dheap.proofs.serve.commands.Goals.{in-Some-command-2+in_ok-push, in_default-command-2, else-loop-number-test, then-loop-number-test+in_default}
+use Rattle.dheap.specs.Script.{CarryOut}
+use Rattle.dheap.proofs.Scripts.{CarryOut-more, next_line}
+use Rattle.dheap.proofs.serve.commands.Goals.{in-Some+in_ok-push, in_default}
 use Rattle.dheap.proofs.serve.commands.Goals as goal
 
-pub loop-number-init : goal.loop-number-init
-loop-number-init g c = (search rules, [], [], refl, refl, tt, search rules)
-
-pub loop-number-preserved : goal.loop-number-preserved
-loop-number-preserved g c =
-    let (callable, before, lines, all, number, say, carry) = c.loop-number.invariant in
-    let (said, says, carries) = c.in-Some-command.ensures in
-    let line = c.first_line.result.0.now in (
+pub loop-line-preserved : goal.loop-line-preserved
+loop-line-preserved g c =
+    let (callable, carry) = c.loop-line.invariant in (
       callable,
-      before ++ line ∷ [],
-      lines ++ said ∷ [],
-      all ∙ ap (λ r. before ++ lines_left r) c.in-Some.is ∙ ap (λ r. before ++ r) c.first_line.ensures ∙ sym (append_assoc before (line ∷ []) (lines_left c.first_line.result.1)),
-      omega (arith, number, length-append before (line ∷ [])),
-      Say-append before (line ∷ []) lines (said ∷ []) say (says, tt),
-      CarryOut-more _ _ _ _ lines said carry carries (elim c.match-command-2.branch [
-        | in-Some-command-2+in_ok-push w ↦ ap (λ v. read.commands v.items) w.commands-is ∙ ap (λ v. read.commands v) w.in_ok-push.ensures.items ∙ map-append read.command c.loop-number.commands.items (w.in-Some-command-2.command ∷ [])
-            ∙ ap (λ o. read.commands c.loop-number.commands.items ++ map read.command (option_to_list o)) (sym w.in-Some-command-2.is)
-        | in_default-command-2 w ↦ ap (λ v. read.commands v.items) w.commands-is ∙ sym (append-nil (read.commands c.loop-number.commands.items))
-            ∙ ap (λ o. read.commands c.loop-number.commands.items ++ map read.command (option_to_list o)) (sym w.in_default-command-2.is)
-      ]),
+      subst (CarryOut _ _) (next_line c.args.lines.now c.loop-line.line-index _ c.loop-line-test.true) (CarryOut-more _ _ _ _ _ _ carry c.command.ensures (elim c.match-command.branch [
+        | in-Some+in_ok-push w ↦ ap (λ v. read.commands v.items) w.commands-is ∙ ap (λ v. read.commands v) w.in_ok-push.ensures.items ∙ map-append read.command c.loop-line.commands.items (w.in-Some.command ∷ [])
+            ∙ ap (λ o. read.commands c.loop-line.commands.items ++ map read.command (option_to_list o)) (sym w.in-Some.is)
+        | in_default w ↦ ap (λ v. read.commands v.items) w.commands-is ∙ sym (append-nil (read.commands c.loop-line.commands.items))
+            ∙ ap (λ o. read.commands c.loop-line.commands.items ++ map read.command (option_to_list o)) (sym w.in_default.is)
+      ])),
     )
 
-pub returns-clause-said : goal.returns-clause-said
-returns-clause-said g c =
-    let (callable, before, lines, all, number, say, carry) = c.loop-number.invariant in
-    elim c.loop-number-test.branch [
-      | else-loop-number-test w ↦ absurd (omega (arith, number, w.loop-number-test.false, few_lines (λ b. b == 10) c.args.script.now, ap (λ l. length l) all, length-append before (lines_left c.loop-number.rest), c.type_inv.script))
-      | then-loop-number-test+in_default w ↦ (lines, subst (λ ls. Say ls lines) (sym (all ∙ ap (λ r. before ++ lines_left r) w.in_default.is ∙ append-nil before)) say, carry)
-    ]
+pub returns : goal.returns
+returns g c = subst (CarryOut _ _) (take_all c.loop-line.line-index c.args.lines.now (omega (arith, c.loop-line-test.false))) c.loop-line.invariant.1
