@@ -5,6 +5,8 @@ use std::io::{ErrorKind, Read, Write};
 use std::process::Abort;
 use std::test::Fail;
 
+mod faults;
+
 const USAGE: &str = "usage: dheap ARITY (1 to 8)\n";
 
 const NINE: &str = "push 1\npush 5\npush 2\nlen\ntest 4\npop\npop\npop\npop\n";
