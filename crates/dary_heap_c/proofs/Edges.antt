@@ -1,0 +1,29 @@
+-- Edges whose targets are nodes, and the states that wait where they end.
+use Rattle.std.proofs.Common.{◌≡◌, ℕ, ◌+◌, ◌<◌, ◌≤◌, List, ◌∷◌, length, map, sum, All, get_or, subst, arith}
+use Rattle.std.proofs.Math.ListN.{set}
+use Rattle.std.proofs.lemmas.List.{get_or-map, length-map}
+use Rattle.std.proofs.lemmas.List.Elements.{All-cons, All-tail}
+use Rattle.std.proofs.lemmas.List.Sorted.{All-permutation, length_permutation}
+use Rattle.std.proofs.lemmas.List.Sums.{sum_by-set}
+use Rattle.dary_heap.specs.Bag.{IsSameBag}
+use Rattle.dary_heap.specs.declared.shortest_path.Edge.{Edge}
+use Rattle.dary_heap.specs.declared.shortest_path.State.{State}
+
+pub ends_within : (n : ℕ) (targets : List ℕ) (row : List Edge) → map (λ edge. edge.node) row ≡ targets → All (λ target. target < n) targets → All (λ edge. edge.node < n) row
+ends_within n targets row same ends k d below =
+    let list : All (λ target. target < n) (map (λ edge. edge.node) row) = rw same ends in
+    let at = get_or-map (λ edge. edge.node) row k d 0 below in
+    subst (λ node. node < n) at (list k 0 (rw (length-map row (λ edge. edge.node)) below))
+
+module _ (next : State) (waiting grown : List State) (bag : IsSameBag (next ∷ waiting) grown) where
+  -- one more state waits, at a node
+  pub waits_more : (n : ℕ) → next.position < n → All (λ state. state.position < n) waiting → All (λ state. state.position < n) grown
+  waits_more n here there = All-permutation (λ state. state.position < n) (next ∷ waiting) grown bag (All-cons (λ state. state.position < n) next waiting here there)
+
+  -- one more state waits, and the cost found for its node falls
+  pub spent_more : (found : List ℕ) (x : ℕ) → next.position < length found → x ≡ get_or found next.position x → next.cost < x → sum (set found next.position next.cost) + length grown ≤ sum found + length waiting
+  spent_more found x within read under = omega (arith, read, sum_by-set (λ n. n) found next.position next.cost x within, length_permutation (next ∷ waiting) grown bag)
+
+-- the states that wait are at nodes, also once one was taken
+pub waits_less : (taken : State) (waiting rest : List State) (n : ℕ) → IsSameBag waiting (taken ∷ rest) → All (λ state. state.position < n) waiting → All (λ state. state.position < n) rest
+waits_less taken waiting rest n bag there = All-tail (λ state. state.position < n) taken rest (All-permutation (λ state. state.position < n) waiting (taken ∷ rest) bag there)

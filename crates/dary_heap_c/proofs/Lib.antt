@@ -1,0 +1,5 @@
+pub mod Churned
+pub mod Edges
+pub mod Pieces
+pub mod Popped
+pub mod Written

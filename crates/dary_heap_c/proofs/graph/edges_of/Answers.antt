@@ -1,0 +1,20 @@
+use Rattle.std.proofs.Common.{◌<◌, All, arith}
+use Rattle.std.proofs.lemmas.List.Elements.{All-push, All-take, All-drop}
+use Rattle.dary_heap_c.specs.Graph.{nodes}
+use Rattle.dary_heap_c.proofs.Edges.{ends_within}
+use Rattle.dary_heap_c.proofs.graph.edges_of.Goals as goal
+
+pub loop-node-preserved : goal.loop-node-preserved
+loop-node-preserved c =
+    let l = c.loop-node in
+    let row = c.in_ok-row_of.field-0 in
+    let n = nodes c.args.offsets.now in
+    let ends = ends_within n _ row.items c.in_ok-row_of.ensures.nodes (All-take (λ target. target < n) _ _ (All-drop (λ target. target < n) _ c.args.targets.now c.requires.joined)) in
+    record {
+      long = grind (arith, l.invariant.long, c.in-Ok.ensures.len);
+      ended = omega (arith, c.loop-node-test.true);
+      within = rw c.in-Ok.ensures.items (All-push (λ row. All (λ edge. edge.node < n) row.items) l.edges.items row l.invariant.within ends);
+    }
+
+pub returns-clause-long : goal.returns-clause-long
+returns-clause-long c = omega (arith, c.loop-node.invariant.long, c.loop-node.invariant.ended, c.loop-node-test.false)

@@ -1,0 +1,3 @@
+pub mod Churning
+pub mod Graph
+pub mod Writing
