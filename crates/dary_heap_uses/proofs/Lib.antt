@@ -1,0 +1,5 @@
+pub mod Keeping
+pub mod Merging
+pub mod Running
+pub mod Scheduling
+pub mod Taking

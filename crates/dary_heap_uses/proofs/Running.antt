@@ -1,0 +1,83 @@
+-- The steps of a simulation, one more at a time.
+use Rattle.std.proofs.Common.{◌≡◌, ℕ, ◌+◌, ◌≤◌, List, [], ◌∷◌, ◌++◌, map, take, arith, refl, sym, ap, ◌∙◌, subst, append-nil, append_assoc}
+use Rattle.std.proofs.lemmas.Fn.{FoldsTo-push}
+use Rattle.std.proofs.lemmas.List.{map-append}
+use Rattle.std.proofs.lemmas.List.Elements.{All-nil, All-push}
+use Rattle.std.proofs.lemmas.List.Sorted.{IsPermutation-refl, IsPermutation-trans, IsPermutation-cons, IsPermutation-append_left, IsPermutation-append_right, IsPermutation-append_comm, IsPermutation-to_front}
+use Rattle.dary_heap.specs.Bag.{IsSameBag}
+use Rattle.dary_heap_uses.specs.Simulation.{Agenda, Step, scheduled_in, NeverGoesBack, IsRun}
+use Rattle.dary_heap_uses.specs.declared.simulation.Event.{Event}
+
+scheduled_in-push : (steps : List Step) (step : Step) → scheduled_in (steps ++ step ∷ []) ≡ scheduled_in steps ++ step.scheduled
+scheduled_in-push [] step = append-nil step.scheduled
+scheduled_in-push (first ∷ steps) step = ap (λ (xs : List Event). first.scheduled ++ xs) (scheduled_in-push steps step) ∙ sym (append_assoc first.scheduled (scheduled_in steps) step.scheduled)
+
+NeverGoesBack-push : (steps : List Step) (moment later : ℕ) (step : Step) → NeverGoesBack moment steps later → later ≤ step.event.moment → NeverGoesBack moment (steps ++ step ∷ []) step.event.moment
+NeverGoesBack-push [] moment later step same up = (omega (arith, same, up), refl)
+NeverGoesBack-push (first ∷ steps) moment later step h up = (h.0, NeverGoesBack-push steps first.event.moment later step h.1 up)
+
+abbrev events_of : List Step → List Event
+events_of steps = map (λ (step : Step). step.event) steps
+
+module _ {H : Type 0} (handles : H → Event → List Event → H → Type 0) (end : ℕ) (old : Agenda) (first : H) where
+  pub IsRun-begun : IsRun handles end old first [] [] old first
+  IsRun-begun = record {
+    handled = refl;
+    forward = refl;
+    up_to_end = All-nil _;
+    none_lost = subst (λ (xs : List Event). IsSameBag xs old.waiting) (sym (append-nil old.waiting)) (IsPermutation-refl old.waiting);
+  }
+
+module _ {H : Type 0} {handles : H → Event → List Event → H → Type 0} {end : ℕ} {old : Agenda} {first : H} {steps : List Step} {mid : Agenda} {last : H} (h : IsRun handles end old first steps [] mid last) (event : Event) (scheduled : List Event) (next : Agenda) (after : H) (forward : mid.moment ≤ event.moment) (present : next.moment ≡ event.moment) (up : event.moment ≤ end) (taken : IsSameBag mid.waiting (event ∷ next.waiting)) (handled : handles last event scheduled after) where
+  abbrev step : Step
+  step = record { event = event; scheduled = scheduled }
+
+  abbrev more : List Step
+  more = steps ++ step ∷ []
+
+  -- the event came out of those that wait, and what was scheduled came in
+  moved : IsSameBag (mid.waiting ++ scheduled) (event ∷ scheduled ++ next.waiting)
+  moved = IsPermutation-trans _ _ _ (IsPermutation-append_left scheduled mid.waiting (event ∷ next.waiting) taken) (IsPermutation-cons event (next.waiting ++ scheduled) (scheduled ++ next.waiting) (IsPermutation-append_comm next.waiting scheduled))
+
+  kept : IsSameBag ((old.waiting ++ scheduled_in steps) ++ scheduled) (events_of steps ++ (event ∷ scheduled ++ next.waiting))
+  kept =
+      IsPermutation-trans _ _ _
+      (IsPermutation-append_left scheduled (old.waiting ++ scheduled_in steps) (events_of steps ++ mid.waiting) h.none_lost)
+      (subst (λ (xs : List Event). IsSameBag xs (events_of steps ++ (event ∷ scheduled ++ next.waiting))) (sym (append_assoc (events_of steps) mid.waiting scheduled)) (IsPermutation-append_right (events_of steps) (mid.waiting ++ scheduled) (event ∷ scheduled ++ next.waiting) moved))
+
+  all_scheduled : (old.waiting ++ scheduled_in steps) ++ scheduled ≡ old.waiting ++ scheduled_in more
+  all_scheduled = append_assoc old.waiting (scheduled_in steps) scheduled ∙ ap (λ (xs : List Event). old.waiting ++ xs) (sym (scheduled_in-push steps step))
+
+  all_handled : events_of steps ++ (event ∷ scheduled ++ next.waiting) ≡ events_of more ++ (scheduled ++ next.waiting)
+  all_handled = sym (append_assoc (events_of steps) (event ∷ []) (scheduled ++ next.waiting)) ∙ ap (λ (xs : List Event). xs ++ (scheduled ++ next.waiting)) (sym (map-append (λ (s : Step). s.event) steps (step ∷ [])))
+
+  -- what was scheduled is refused
+  pub IsRun-refused : IsRun handles end old first more scheduled next after
+  IsRun-refused = record {
+    handled = FoldsTo-push (λ (handler : H) (s : Step) (later : H). handles handler s.event s.scheduled later) first steps last step after h.handled handled;
+    forward = subst (NeverGoesBack old.moment more) (sym present) (NeverGoesBack-push steps old.moment mid.moment step h.forward forward);
+    up_to_end = All-push (λ (s : Step). s.event.moment ≤ end) steps step h.up_to_end up;
+    none_lost = subst (λ (xs : List Event). IsSameBag xs (events_of more ++ (scheduled ++ next.waiting))) all_scheduled (subst (IsSameBag ((old.waiting ++ scheduled_in steps) ++ scheduled)) all_handled kept);
+  }
+
+  pub IsRun-returned : (back : List Event) (new : Agenda) → back ≡ scheduled → new ≡ next → IsRun handles end old first more back new after
+  IsRun-returned back new same unchanged = subst (λ (xs : List Event). IsRun handles end old first more xs new after) (sym same) (subst (λ (agenda : Agenda). IsRun handles end old first more scheduled agenda after) (sym unchanged) IsRun-refused)
+
+  -- and here it waits from now on
+  pub IsRun-more : (new : Agenda) → new.moment ≡ next.moment → IsSameBag (scheduled ++ next.waiting) new.waiting → IsRun handles end old first more [] new after
+  IsRun-more new same waits =
+      let refused = IsRun-refused in
+      record {
+        handled = refused.handled;
+        forward = subst (NeverGoesBack old.moment more) (sym same) refused.forward;
+        up_to_end = refused.up_to_end;
+        none_lost = IsPermutation-trans _ _ _ refused.none_lost (IsPermutation-append_right (events_of more) (scheduled ++ next.waiting) new.waiting waits);
+      }
+
+-- of a list of events, one more came to a bag
+pub came_more : (events old items new : List Event) (index : ℕ) (event : Event) → take (index + 1) events ≡ take index events ++ event ∷ [] → IsSameBag (take index events ++ old) items → IsSameBag (event ∷ items) new → IsSameBag (take (index + 1) events ++ old) new
+came_more events old items new index event more before came =
+    subst (λ (xs : List Event). IsSameBag (xs ++ old) new) (sym more)
+    (IsPermutation-trans _ _ _
+    (IsPermutation-append_left old (take index events ++ event ∷ []) (event ∷ take index events) (IsPermutation-to_front (take index events) event))
+    (IsPermutation-trans _ _ _ (IsPermutation-cons event (take index events ++ old) items before) came))

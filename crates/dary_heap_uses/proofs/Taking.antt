@@ -1,0 +1,58 @@
+-- Timers that are taken one after another.
+use Rattle.std.proofs.Common.{◌≡◌, ℕ, ◌-◌, ◌<◌, ◌≤◌, List, [], ◌∷◌, ◌++◌, length, All, get_or, arith, sym, ap, ◌∙◌, subst, append-nil, append_assoc}
+use Rattle.std.specs.List.Sorted.{IsNonDecreasingBy}
+use Rattle.std.proofs.lemmas.List.Elements.{All-nil, All-push, All-tail, All-weaker, All-contains, All-get_or}
+use Rattle.std.proofs.lemmas.List.Sorted.{IsNonDecreasingBy-push, IsNonDecreasingBy-short, IsPermutation-refl, IsPermutation-trans, IsPermutation-append_right, All-permutation}
+use Rattle.dary_heap.specs.Bag.{IsSameBag}
+use Rattle.dary_heap_uses.specs.Timers.{IsEarliest, AddsDue}
+use Rattle.dary_heap_uses.specs.declared.timers.Timer.{Timer}
+
+abbrev moment_of : Timer → ℕ
+moment_of timer = timer.moment
+
+-- some timers that are due were taken, and none that is left is earlier
+pub record IsTaking (now : ℕ) (set left before after : List Timer) : Type 0 where
+  pub taken : List Timer
+  pub added : after ≡ before ++ taken
+  pub none_lost : IsSameBag set (taken ++ left)
+  pub in_order : IsNonDecreasingBy moment_of taken
+  pub none_early : All (λ timer. timer.moment ≤ now) taken
+  pub none_before : All (λ timer. All (λ other. timer.moment ≤ other.moment) left) taken
+
+pub IsTaking-begun : (now : ℕ) (set before after : List Timer) → after ≡ before → IsTaking now set set before after
+IsTaking-begun now set before after same = record {
+  taken = [];
+  added = same ∙ sym (append-nil before);
+  none_lost = IsPermutation-refl set;
+  in_order = IsNonDecreasingBy-short moment_of [] (omega arith);
+  none_early = All-nil _;
+  none_before = All-nil _;
+}
+
+module _ {now : ℕ} {set left before after : List Timer} (h : IsTaking now set left before after) where
+  module _ (timer : Timer) (rest more : List Timer) (earliest : IsEarliest left timer) (due : timer.moment ≤ now) (bag : IsSameBag left (timer ∷ rest)) (is : more ≡ after ++ timer ∷ []) where
+    -- what holds of all that were left holds of those that are left once one was taken
+    still : (P : Timer → Type 0) → All P left → All P rest
+    still P all = All-tail P timer rest (All-permutation P left (timer ∷ rest) bag all)
+
+    pub IsTaking-more : IsTaking now set rest before more
+    IsTaking-more = record {
+      taken = h.taken ++ timer ∷ [];
+      added = is ∙ (ap (λ xs. xs ++ timer ∷ []) h.added ∙ append_assoc before h.taken (timer ∷ []));
+      none_lost = subst (IsSameBag set) (sym (append_assoc h.taken (timer ∷ []) rest)) (IsPermutation-trans _ _ _ h.none_lost (IsPermutation-append_right h.taken left (timer ∷ rest) bag));
+      in_order = IsNonDecreasingBy-push moment_of h.taken timer h.in_order (λ d some.
+          let last = get_or h.taken (length h.taken - 1) d in
+          let under = All-get_or (λ (t : Timer). All (λ (other : Timer). t.moment ≤ other.moment) left) h.taken (length h.taken - 1) d (omega arith) h.none_before in
+          All-contains (λ (other : Timer). last.moment ≤ other.moment) left timer under earliest.set);
+      none_early = All-push (λ (t : Timer). t.moment ≤ now) h.taken timer h.none_early due;
+      none_before = All-push (λ (t : Timer). All (λ (other : Timer). t.moment ≤ other.moment) rest) h.taken timer
+          (All-weaker (λ (t : Timer). All (λ (other : Timer). t.moment ≤ other.moment) left) (λ (t : Timer). All (λ (other : Timer). t.moment ≤ other.moment) rest) (λ t all. still (λ (other : Timer). t.moment ≤ other.moment) all) h.taken h.none_before)
+          (still (λ (other : Timer). timer.moment ≤ other.moment) earliest.none_before);
+    }
+
+  pub IsTaking-ended : All (λ timer. now < timer.moment) left → AddsDue now set left before after
+  IsTaking-ended later = record {
+    taken = h.taken;
+    added = h.added;
+    takes = record { none_lost = h.none_lost; in_order = h.in_order; none_early = h.none_early; all_due = later };
+  }

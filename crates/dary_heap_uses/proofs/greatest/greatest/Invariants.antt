@@ -1,0 +1,11 @@
+use Rattle.std.proofs.Common.{◌+◌, ◌*◌, ◌≤◌, length}
+use Rattle.dary_heap.specs.Bounds.{push_bound, pop_bound}
+use Rattle.dary_heap_uses.specs.Keeping.{KeepsGreatest, values}
+use Rattle.dary_heap_uses.proofs.greatest.greatest.Given as goal
+
+abbrev pub invariant-loop-item : goal.invariant-loop-item
+invariant-loop-item g l = record {
+  greatest : KeepsGreatest g.T.Ord.cmp l.k l.yielded (values l.kept.items);
+  few : length l.kept.items ≤ l.k;
+  counted : l.kept.comparisons ≤ length l.yielded * (push_bound g.row.D l.k + pop_bound g.row.D (l.k + 1));
+}

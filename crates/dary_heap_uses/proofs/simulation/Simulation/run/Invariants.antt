@@ -1,0 +1,8 @@
+use Rattle.std.proofs.Common.{◌≡◌, List, [], length}
+use Rattle.dary_heap_uses.specs.Simulation.{Step, IsRun}
+use Rattle.dary_heap_uses.proofs.simulation.Simulation.run.Given as goal
+
+-- so many steps led here
+abbrev pub invariant-loop-handled : goal.invariant-loop-handled
+invariant-loop-handled g l =
+    (steps : List Step) × (length steps ≡ l.handled) × IsRun g.H.Handler.handles l.end l.initial.self l.initial.handler steps [] l.self l.handler

@@ -1,0 +1,23 @@
+use Rattle.std.proofs.Common.{arith, get_or, refl}
+use Rattle.std.proofs.lemmas.List.{take_more}
+use Rattle.dary_heap.proofs.Reversed.{came}
+use Rattle.dary_heap_uses.proofs.Running.{came_more}
+use Rattle.dary_heap_uses.specs.declared.simulation.Event.{Event}
+use Rattle.dary_heap_uses.proofs.simulation.push_all.Goals as goal
+
+pub unwrap-requires : goal.unwrap-requires
+unwrap-requires c = c.push.ensures.succeeds (omega (arith, c.loop-event.invariant.room))
+
+pub loop-event-preserved : goal.loop-event-preserved
+loop-event-preserved c =
+    let before = c.loop-event.invariant in
+    let events = c.args.events.now in
+    let index = c.loop-event.event-index in
+    let none : Event = record { moment = 0; kind = 0 } in
+    let bag = rw c.unwrap.ensures at c.push.ensures.bag in
+    let len = rw c.unwrap.ensures at c.push.ensures.len in
+    let kept = c.push.ensures.kept (omega (arith, before.room)) in
+    record {
+      came = came_more events _ _ _ index (get_or events index none) (take_more events index none c.loop-event-test.true) before.came (came _ c.loop-event.waiting.items _ _ refl bag);
+      room = omega (arith, before.room, len, kept);
+    }

@@ -1,0 +1,16 @@
+use Rattle.std.proofs.Common.{arith}
+use Rattle.std.proofs.lemmas.List.Sorted.{length_permutation}
+use Rattle.dary_heap_uses.proofs.Taking.{IsTaking-more}
+use Rattle.dary_heap_uses.proofs.timers.TimerQueue.take_due.Goals as goal
+
+pub loop-timer-smaller : goal.loop-timer-smaller
+loop-timer-smaller c = omega (arith, length_permutation _ _ c.in-Some.ensures.taken)
+
+pub loop-timer-preserved : goal.loop-timer-preserved
+loop-timer-preserved c =
+    let before = c.loop-timer.invariant in
+    let found = c.in-Some.ensures in
+    record {
+      taking = IsTaking-more before.taking c.in-Some.timer _ _ found.earliest found.due found.taken c.push_reserved.ensures.items;
+      room = omega (arith, length_permutation _ _ found.taken, c.push_reserved.ensures.len, c.push_reserved.ensures.capacity, before.room);
+    }

@@ -1,0 +1,13 @@
+use Rattle.std.proofs.Common.{◌+◌, ◌≤◌, length, vec_len, vec_capacity}
+use Rattle.dary_heap_uses.proofs.Taking.{IsTaking}
+use Rattle.dary_heap_uses.proofs.timers.TimerQueue.take_due.Given as goal
+
+-- what was taken so far, and room for the others
+abbrev pub invariant-loop-timer : goal.invariant-loop-timer
+invariant-loop-timer l = record {
+  taking : IsTaking l.now l.initial.self l.self l.initial.due.items l.due.items;
+  room : vec_len l.due + length l.self ≤ vec_capacity l.due;
+}
+
+abbrev pub decreases-loop-timer : goal.decreases-loop-timer
+decreases-loop-timer l = length l.self

@@ -1,0 +1,5 @@
+pub mod Keeping
+pub mod Merging
+pub mod Scheduling
+pub mod Simulation
+pub mod Timers

@@ -1,0 +1,34 @@
+-- Events that are handled in the order of their moments, and what handles them schedules further ones.
+use Rattle.std.specs.Prelude.{◌≡◌, ℕ, ◌≤◌, List, [], ◌∷◌, ◌++◌, map, All}
+use Rattle.std.specs.List.{FoldsTo}
+use Rattle.dary_heap.specs.Bag.{IsSameBag}
+use Rattle.dary_heap_uses.specs.declared.simulation.Event.{Event}
+
+-- what a caller sees of a simulation: the present moment, and the bag of the events that wait
+pub record Agenda : Type 0 where
+  pub moment : ℕ
+  pub waiting : List Event
+
+-- an event that was handled, and those that its handler scheduled
+pub record Step : Type 0 where
+  pub event : Event
+  pub scheduled : List Event
+
+-- all that was scheduled in these steps
+abbrev pub scheduled_in : List Step → List Event
+scheduled_in [] = []
+scheduled_in (step ∷ steps) = step.scheduled ++ scheduled_in steps
+
+-- from a moment on, the events of these steps come one after another up to the later moment, and none goes back
+abbrev pub NeverGoesBack : ℕ → List Step → ℕ → Type 0
+NeverGoesBack moment [] later = moment ≡ later
+NeverGoesBack moment (step ∷ steps) later = (moment ≤ step.event.moment) × NeverGoesBack step.event.moment steps later
+
+-- these steps led from one agenda to another, with these events refused
+pub record IsRun {H : Type 0} (handles : H → Event → List Event → H → Type 0) (end : ℕ) (old : Agenda) (first : H) (steps : List Step) (refused : List Event) (new : Agenda) (last : H) : Type 0 where
+  -- each event was handed to the handler in turn, which scheduled these
+  pub handled : FoldsTo (λ handler step after. handles handler step.event step.scheduled after) first steps last
+  pub forward : NeverGoesBack old.moment steps new.moment
+  pub up_to_end : All (λ step. step.event.moment ≤ end) steps
+  -- each event that was scheduled was handled once, still waits or was refused
+  pub none_lost : IsSameBag (old.waiting ++ scheduled_in steps) (map (λ step. step.event) steps ++ (refused ++ new.waiting))

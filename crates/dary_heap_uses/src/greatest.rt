@@ -1,0 +1,68 @@
+//! The `k` greatest of a stream.
+//!
+//! A heap of `Reverse` has the least of the items that are kept at its top. So a greater item takes its
+//! place through a loan, in one way down, where a push and a pop would take a way up and a way down.
+ghost use Rattle.std.specs.Prelude.{◌≡◌, ◌+◌, ◌*◌, ◌≤◌, [], ◌∷◌, ◌++◌, List, length, IfOk, OnOk};
+ghost use Rattle.std.specs.Iterator.{Drains, IsFinite};
+ghost use Rattle.dary_heap.specs.Bounds.{RisesWithin, push_bound, pop_bound};
+ghost use Rattle.dary_heap_uses.specs.Keeping.{KeepsGreatest, values};
+
+use dary_heap::DaryHeap;
+use std::alloc::{AllocError, Global};
+use std::cmp::Reverse;
+
+#[cfg(test)]
+mod tests;
+
+/// The `k` greatest items of a stream, or all of them where they are fewer, as a heap whose least item
+/// comes out first.
+///
+/// No item that is left out is strictly greater than one that is kept. Of equal items any may stay. It
+/// never holds more than `k` items. The caller owes that the stream ends. It is refused only for want of
+/// memory for the items that are kept.
+///
+/// Beside one comparison with the least for each item that finds no room, the heap makes for each item at
+/// most as many as for a push onto `k` items and the pop that follows.
+///
+/// ```
+/// let mut kept: DaryHeap<_, 4> = greatest(alloc, [3, 8, 1, 5], 2)?;
+/// assert_eq!(rt; kept.pop(), Some(Reverse(5)));
+/// assert_eq!(rt; kept.pop(), Some(Reverse(8)));
+/// ```
+pub fn greatest<T: Ord + Drop, I: IntoIterator<Item = T>, const D: usize>(
+    alloc: Global,
+    stream: I,
+    k: usize,
+) -> Result<DaryHeap<Reverse<T>, D>, AllocError>
+    requires { (it : I.IntoIter) → I.into_iter_gives stream it → I.IntoIter.can_next it × IsFinite (I.IntoIter.remaining it) }
+    ensures { IfOk result (λ kept. (it : I.IntoIter) × (items : List T) × I.into_iter_gives stream it × Drains I.IntoIter.next_gives it items × KeepsGreatest T.cmp k items (values kept.items) × (kept.comparisons ≤ length items * (push_bound D k + pop_bound D (k + 1)))) }
+{
+    let mut kept = DaryHeap::new(alloc);
+    for item in stream {
+        offer(&mut kept, k, item)?;
+    }
+    Ok(kept)
+}
+
+/// Takes an item in while fewer than `k` are kept, and later in the place of the least, where that is
+/// strictly less.
+fn offer<T: Ord + Drop, const D: usize>(
+    kept: &mut DaryHeap<Reverse<T>, D>,
+    k: usize,
+    item: T,
+) -> Result<(), AllocError>
+    requires { length kept.old.items ≤ k }
+    ensures greatest { OnOk result ((items : List T) → KeepsGreatest T.cmp k items (values kept.old.items) → KeepsGreatest T.cmp k (items ++ item ∷ []) (values kept.new.items)) }
+    ensures counted { OnOk result (RisesWithin kept.old.comparisons kept.new.comparisons (push_bound D k + pop_bound D (k + 1))) }
+    ensures few { OnOk result (length kept.new.items ≤ k) }
+{
+    if kept.len() < k {
+        return kept.push(Reverse(item)).map_err(|_| AllocError);
+    }
+    if let Some(mut least) = kept.peek_mut() {
+        if least.0 < item {
+            *least = Reverse(item);
+        }
+    }
+    Ok(())
+}

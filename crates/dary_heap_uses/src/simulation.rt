@@ -1,0 +1,162 @@
+//! An event simulation: events are handled in the order of their moments, and what handles them
+//! schedules further ones.
+//!
+//! A clause sees a simulation as the `Agenda` of `specs/Simulation.antt`: the present moment, and the bag
+//! of the events that wait.
+ghost use Rattle.std.specs.Prelude.{◌≡◌, ◌+◌, ◌<◌, ◌≤◌, [], ◌∷◌, ◌++◌, List, All, map, length, IfSome, IfNone, IfOk, IfErr, OnOk, OnErr};
+ghost use Rattle.dary_heap.specs.Bag.{IsSameBag};
+ghost use Rattle.dary_heap_uses.specs.Simulation.{Step, IsRun};
+
+use dary_heap::TernaryHeap;
+use std::alloc::Global;
+use std::cmp::Reverse;
+use std::marker::Model;
+
+/// An event. The earlier one is the lesser.
+#[derive(Clone, Copy, PartialEq, Eq, PartialOrd, Ord, Debug)]
+pub struct Event {
+    /// The moment at which it happens.
+    pub moment: u64,
+    /// What happens.
+    pub kind: u32,
+}
+
+/// What handles the events of a simulation.
+pub trait Handler {
+    ghost use Rattle.std.specs.Prelude.{List};
+    ghost use Rattle.dary_heap_uses.specs.declared.simulation.Event.{Event};
+
+    /// It handled this event, scheduled these, and was changed so.
+    ghost handles: { Self → Event → List Event → Self → Type 0 };
+
+    /// Handles an event, and gives the further events that it schedules. The present moment is that of the
+    /// event, and none of them is before it.
+    fn handle(&mut self, event: Event) -> Vec<Event>
+        ensures handled { handles self.old event result.items self.new }
+        ensures not_before { All (λ next. event.moment ≤ next.moment) result.items };
+}
+
+/// The present moment and the events that wait, none of which is before it.
+#[derive(Drop)]
+pub struct Simulation {
+    moment: u64,
+    waiting: TernaryHeap<Reverse<Event>>,
+}
+
+impl Model for Simulation {
+    ghost use Rattle.std.specs.Prelude.{◌≤◌, All, map};
+    ghost use Rattle.dary_heap_uses.specs.Simulation.{Agenda};
+
+    ghost Value = { Agenda };
+
+    ghost view = { λ simulation. record { moment = simulation.moment; waiting = map (λ event. event.0) simulation.waiting.items } };
+
+    ghost invariant = { λ simulation. All (λ event. simulation.moment ≤ event.moment) (map (λ event. event.0) simulation.waiting.items) };
+}
+
+impl Simulation {
+    /// A simulation at moment 0 in which no event waits. It takes no memory.
+    pub fn new(alloc: Global) -> Simulation
+        ensures moment { result.moment ≡ 0 }
+        ensures waiting { result.waiting ≡ [] }
+    {
+        Simulation {
+            moment: 0,
+            waiting: TernaryHeap::new(alloc),
+        }
+    }
+
+    /// The present moment: that of the event that was handled last. No event that waits is before it.
+    pub fn moment(&self) -> u64
+        ensures moment { result ≡ self.now.moment }
+        ensures none_before { All (λ event. self.now.moment ≤ event.moment) self.now.waiting }
+    {
+        self.moment
+    }
+
+    /// Schedules an event. The caller owes that it is not before the present moment.
+    ///
+    /// Where there is no memory for it, it comes back and nothing has changed.
+    pub fn schedule(&mut self, event: Event) -> Result<(), Event>
+        requires { self.old.moment ≤ event.moment }
+        ensures scheduled { OnOk result (IsSameBag (event ∷ self.old.waiting) self.new.waiting) }
+        ensures moment { self.new.moment ≡ self.old.moment }
+        ensures returned { IfErr result (λ back. back ≡ event) }
+        ensures unchanged { OnErr result (self.new ≡ self.old) }
+    {
+        match self.waiting.push(Reverse(event)) {
+            Ok(()) => Ok(()),
+            Err(Reverse(event)) => Err(event),
+        }
+    }
+
+    /// Handles the events up to an end in the order of their moments, those too that are scheduled
+    /// meanwhile, but no more than the budget allows. It gives the number of events that it handled: where
+    /// that is below the budget, no event up to the end waits any more.
+    ///
+    /// Where there is no memory for what the handler scheduled last, these events come back, and nothing is
+    /// handled after that. It takes the comparisons of a pop and of the pushes for each event that it
+    /// handles.
+    pub fn run<H: Handler>(
+        &mut self,
+        handler: &mut H,
+        end: u64,
+        budget: u64,
+    ) -> Result<u64, Vec<Event>>
+        ensures ran { IfOk result (λ count. (steps : List Step) × (length steps ≡ count) × IsRun H.handles end self.old handler.old steps [] self.new handler.new) }
+        ensures within { IfOk result (λ count. count ≤ budget) }
+        ensures ended { IfOk result (λ count. count < budget → All (λ event. end < event.moment) self.new.waiting) }
+        ensures refused { IfErr result (λ back. (steps : List Step) × (last : Step) × (length steps < budget) × (back.items ≡ last.scheduled) × IsRun H.handles end self.old handler.old (steps ++ last ∷ []) back.items self.new handler.new) }
+    {
+        for handled in 0..budget {
+            let Some(event) = self.take_next(end) else {
+                return Ok(handled);
+            };
+            self.schedule_all(handler.handle(event))?;
+        }
+        Ok(budget)
+    }
+
+    /// Takes the earliest event if it is not past the end. Its moment is the present one from then on.
+    fn take_next(&mut self, end: u64) -> Option<Event>
+        ensures forward { IfSome result (λ event. self.old.moment ≤ event.moment) }
+        ensures present { IfSome result (λ event. self.new.moment ≡ event.moment) }
+        ensures up_to_end { IfSome result (λ event. event.moment ≤ end) }
+        ensures taken { IfSome result (λ event. IsSameBag self.old.waiting (event ∷ self.new.waiting)) }
+        ensures none { IfNone result (All (λ event. end < event.moment) self.old.waiting) }
+        ensures unchanged { IfNone result (self.new ≡ self.old) }
+    {
+        let Reverse(event) = self.waiting.pop_if(|Reverse(event)| event.moment <= end)?;
+        self.moment = event.moment;
+        Some(event)
+    }
+
+    /// Schedules all these events. Where there is no memory for all of them, they come back and nothing
+    /// has changed.
+    fn schedule_all(&mut self, events: Vec<Event>) -> Result<(), Vec<Event>>
+        requires { All (λ event. self.old.moment ≤ event.moment) events.items }
+        ensures scheduled { OnOk result (IsSameBag (events.items ++ self.old.waiting) self.new.waiting) }
+        ensures moment { self.new.moment ≡ self.old.moment }
+        ensures returned { IfErr result (λ back. back.items ≡ events.items) }
+        ensures unchanged { OnErr result (self.new ≡ self.old) }
+    {
+        if self.waiting.reserve(events.len()).is_err() {
+            return Err(events);
+        }
+        push_all(&mut self.waiting, &events);
+        Ok(())
+    }
+}
+
+/// Adds all these events, for which there is room.
+fn push_all(waiting: &mut TernaryHeap<Reverse<Event>>, events: &[Event])
+    requires { length waiting.old.items + length events.now ≤ waiting.old.capacity }
+    ensures { IsSameBag (events.now ++ map (λ event. event.0) waiting.old.items) (map (λ event. event.0) waiting.new.items) }
+{
+    for event in events {
+        waiting.push(Reverse(*event)).unwrap();
+    }
+}
+
+#[cfg(test)]
+mod tests;
