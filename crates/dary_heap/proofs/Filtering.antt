@@ -79,12 +79,15 @@ take-same (suc n) (x ∷ xs) (y ∷ ys) long same =
     let rest = take-same n xs ys (omega arith) (λ i p. same (suc i) (omega arith)) in
     cc
 
+-- items that change places behind a front leave it as it is
+pub take-before : {X : Type 0} (xs ys : List X) (k p : ℕ) → k ≤ p → Exchanges xs ys k p → take k ys ≡ take k xs
+take-before xs ys k p le e = take-same k xs ys e.len (λ i q. let u : i ≢ k = omega arith in let v : i ≢ p = omega arith in e.others i u v)
+
 -- an item that is brought to the end of the front
 pub take-brought : {X : Type 0} (xs ys : List X) (k p : ℕ) (x : X) → k ≤ p → p < length xs → slice_get xs p ≡ Some x → Exchanges xs ys k p → take (k + 1) ys ≡ take k xs ++ x ∷ []
 take-brought xs ys k p x le within at e =
     let brought : get_or ys k x ≡ x = get_or_from_slice_get ys k x x (e.first ∙ at) in
-    let front : take k ys ≡ take k xs = take-same k xs ys e.len (λ i q. let u : i ≢ k = omega arith in let v : i ≢ p = omega arith in e.others i u v) in
-    take_more ys k x (omega (arith, e.len)) ∙ ap (λ l. l ++ get_or ys k x ∷ []) front ∙ ap (λ z. take k xs ++ z ∷ []) brought
+    take_more ys k x (omega (arith, e.len)) ∙ ap (λ l. l ++ get_or ys k x ∷ []) (take-before xs ys k p le e) ∙ ap (λ z. take k xs ++ z ∷ []) brought
 
 -- the items before the first that is left out
 pub picked-front : {X : Type 0} (bs : List Bool) (xs : List X) → length bs ≡ length xs → take (first_no bs) (items_where_true bs xs) ≡ take (first_no bs) xs

@@ -90,14 +90,13 @@ fn keep<T: Drop, F: FnMut(&T) -> bool>(items: &mut Vec<T>, mut f: F) -> usize
     ensures capacity { vec_capacity items.new ≡ vec_capacity items.old }
 {
     let mut kept = 0;
-    let mut start = items.len();
+    let mut start = 0;
     for place in 0..items.len() {
-        if f(&items[place]) {
-            items.swap(kept, place);
-            kept += 1;
-        } else {
-            start = start.min(place);
-        }
+        let stays = f(&items[place]);
+        start += (stays & (start == place)) as usize;
+        // An item that goes changes places too, so that there is no branch.
+        items.swap(kept, place);
+        kept += stays as usize;
     }
     items.truncate(kept);
     start

@@ -1,33 +1,60 @@
-use Rattle.std.proofs.Common.{◌≡◌, ◌≢◌, ◌+◌, [], ◌∷◌, ◌++◌, true, false, length, drop, Some, slice_get, refl, sym, ap, ◌∙◌, subst, arith, inl, inr, add-one, length-append}
-use Rattle.std.proofs.lemmas.Bool.{cases_eq}
+use Rattle.std.proofs.Common.{◌≡◌, ◌≢◌, ℕ, ◌+◌, ◌<◌, ◌≤◌, [], ◌∷◌, ◌++◌, Bool, true, false, List, length, take, drop, Some, slice_get, nat_eq, refl, sym, ap, ◌∙◌, arith, inl, inr, add-one, length-append}
+use Rattle.std.proofs.lemmas.Bool.{cases_eq, eq-eqb, ne_eqb}
 use Rattle.std.proofs.lemmas.Option.{slice_get_read}
 use Rattle.std.specs.Fn.{CalledAt}
+use mathlib.Core.Bool.{◌&&◌}
+use mir.Val.{bool_byte}
 use Rattle.dary_heap.specs.Asking.{TakesInTurn}
 use Rattle.dary_heap.specs.Filtering.{first_no}
-use Rattle.dary_heap.proofs.Exchange.{exchanges}
-use Rattle.dary_heap.proofs.Filtering.{ReturnsInTurn-more, picked-yes, picked-no, first_no-next, first_no-still, next_asked, take-brought}
+use Rattle.dary_heap.proofs.Exchange.{Exchanges, exchanges}
+use Rattle.dary_heap.proofs.Filtering.{ReturnsInTurn-more, picked-yes, picked-no, first_no-within, first_no-next, first_no-still, next_asked, take-before, take-brought}
+use Rattle.dary_heap.proofs.heap.filter.keep.Invariants.{Told}
 use Rattle.dary_heap.proofs.heap.filter.keep.Goals as goal
-use Rattle.dary_heap.proofs.heap.filter.keep.Goals.{then-f, else-f}
 
-pub loop-place-init : goal.loop-place-init
-loop-place-init g c = record {
-  len = refl;
-  few = omega arith;
-  callable = c.requires;
-  rest = λ i low. refl;
-  told = record {
-    answers = [];
-    so_far = refl;
-    asked = refl;
-    front = refl;
-    all = λ e. (refl, c.len-start.ensures ∙ omega arith);
-    some = λ p. absurd (omega arith);
-  };
-  capacity = refl;
-}
+bit : (b : Bool) → bool_byte b ≤ 1
+bit true = omega arith
+bit false = omega arith
 
-pub f-requires : goal.f-requires
-f-requires g c =
+-- one answer more
+first_no-grown : (bs : List Bool) (b : Bool) (start place : ℕ) → start ≡ first_no bs → length bs ≡ place → start + bool_byte (b && nat_eq start place) ≡ first_no (bs ++ b ∷ [])
+first_no-grown bs true start place first so_far =
+    elim (cases_eq start place) [
+      | inl all ↦
+          let same : nat_eq start place ≡ true = eq-eqb start place all in
+          omega (arith, ap bool_byte same, first_no-next bs true (omega arith))
+      | inr some ↦
+          let differ : nat_eq start place ≡ false = ne_eqb start place some in
+          omega (arith, ap bool_byte differ, first_no-still bs true (omega (arith, first_no-within bs)))
+    ]
+first_no-grown bs false start place first so_far =
+    elim (cases_eq start place) [
+      | inl all ↦ omega (arith, first_no-next bs false (omega arith))
+      | inr some ↦ omega (arith, first_no-still bs false (omega (arith, first_no-within bs)))
+    ]
+
+told_more : {X P : Type 0} (calls : P → X → Bool → P → Type 0) (old xs ys : List X) (f q r : P) (place kept start : ℕ) (b : Bool) (x : X) → place < length xs → kept ≤ place → slice_get xs place ≡ Some x → slice_get old place ≡ Some x → Exchanges xs ys kept place → calls q x b r → Told calls old xs f q place kept start → Told calls old ys f r (place + 1) (kept + bool_byte b) (start + bool_byte (b && nat_eq start place))
+told_more calls old xs ys f q r place kept start true x within few there here e called told =
+    let at : slice_get old (length told.answers) ≡ Some x = ap (slice_get old) told.so_far ∙ here in
+    record {
+      answers = told.answers ++ true ∷ [];
+      so_far = omega (arith, length-append told.answers (true ∷ []), told.so_far);
+      asked = ReturnsInTurn-more calls f q r told.answers true old x at told.asked called;
+      front = take-brought xs ys kept place x few within there e ∙ ap (λ l. l ++ x ∷ []) told.front ∙ sym (picked-yes told.answers old x at);
+      first = first_no-grown told.answers true start place told.first told.so_far;
+    }
+told_more calls old xs ys f q r place kept start false x within few there here e called told =
+    let at : slice_get old (length told.answers) ≡ Some x = ap (slice_get old) told.so_far ∙ here in
+    let same : kept + bool_byte false ≡ kept = omega arith in
+    record {
+      answers = told.answers ++ false ∷ [];
+      so_far = omega (arith, length-append told.answers (false ∷ []), told.so_far);
+      asked = ReturnsInTurn-more calls f q r told.answers false old x at told.asked called;
+      front = ap (λ n. take n ys) same ∙ take-before xs ys kept place few e ∙ told.front ∙ sym (picked-no told.answers old);
+      first = first_no-grown told.answers false start place told.first told.so_far;
+    }
+
+pub f-stays-requires : goal.f-stays-requires
+f-stays-requires g c =
     let now = c.loop-place.items.items in
     let old = c.args.items.now.items in
     let place = c.loop-place.place in
@@ -41,66 +68,22 @@ loop-place-preserved g c =
     let old = c.args.items.now.items in
     let place = c.loop-place.place in
     let kept = c.loop-place.kept in
+    let start = c.loop-place.start in
     let x = c.index.result.now in
+    let answer = c.f-stays.result in
     let before = c.loop-place.invariant in
-    let told = before.told in
+    let answers = before.told.answers in
     let there : slice_get now place ≡ Some x = slice_get_read now (length now) place x refl (omega arith) c.index.ensures in
     let here : slice_get old place ≡ Some x = sym (before.rest place (omega arith)) ∙ there in
-    let at : slice_get old (length told.answers) ≡ Some x = ap (slice_get old) told.so_far ∙ here in
-    let called : CalledAt g.F.FnMut c.loop-place.f x c.f.result c.f.new.self = record { shown = c.index.result; shows = refl; called = c.f.ensures } in
-    let callable : TakesInTurn g.F.FnMut c.f.new.self (drop (place + 1) old) = rw add-one ((next_asked g.F.FnMut c.loop-place.f old place x here before.callable).1 c.f.result c.f.new.self called) in
-    let calls = CalledAt g.F.FnMut in
-    elim c.if-f.branch [
-      | then-f w ↦
-          let e = exchanges now w.swap.new.self.items kept place (omega arith) (omega arith) w.swap.ensures.items in
-          let yes_called = subst (λ b. CalledAt g.F.FnMut c.loop-place.f x b c.f.new.self) w.if-f.true called in
-          rw (w.items-is, w.kept-is, w.start-is) record {
-            len = omega (arith, e.len);
-            few = omega arith;
-            callable = callable;
-            rest = λ i low. let u : i ≢ kept = omega arith in let v : i ≢ place = omega arith in e.others i u v ∙ before.rest i (omega arith);
-            told = record {
-              answers = told.answers ++ true ∷ [];
-              so_far = omega (arith, length-append told.answers (true ∷ []), told.so_far);
-              asked = ReturnsInTurn-more calls c.args.f c.loop-place.f c.f.new.self told.answers true old x at told.asked yes_called;
-              front = take-brought now w.swap.new.self.items kept place x (omega arith) (omega arith) there e ∙ ap (λ l. l ++ x ∷ []) told.front ∙ sym (picked-yes told.answers old x at);
-              all = λ same. let all = told.all (omega arith) in (omega (arith, first_no-next told.answers true all.0, length-append told.answers (true ∷ [])), all.1);
-              some = λ fewer. let some = told.some (omega arith) in let still = first_no-still told.answers true some.1 in (some.0 ∙ sym still, omega (arith, still, some.1, length-append told.answers (true ∷ [])));
-            };
-            capacity = omega (arith, w.swap.ensures.capacity, before.capacity);
-          }
-      | else-f w ↦
-          let no_called = subst (λ b. CalledAt g.F.FnMut c.loop-place.f x b c.f.new.self) w.if-f.false called in
-          rw (w.items-is, w.kept-is, w.start-is) record {
-            len = before.len;
-            few = omega arith;
-            callable = callable;
-            rest = λ i low. before.rest i (omega arith);
-            told = record {
-              answers = told.answers ++ false ∷ [];
-              so_far = omega (arith, length-append told.answers (false ∷ []), told.so_far);
-              asked = ReturnsInTurn-more calls c.args.f c.loop-place.f c.f.new.self told.answers false old x at told.asked no_called;
-              front = told.front ∙ sym (picked-no told.answers old);
-              all = λ same. absurd (omega arith);
-              some = λ fewer. elim (cases_eq kept place) [
-                | inl none ↦
-                    let first = first_no-next told.answers false (told.all none).0 in
-                    (omega (arith, first, told.so_far, (told.all none).1, w.min-start.ensures), omega (arith, first, length-append told.answers (false ∷ [])))
-                | inr other ↦
-                    let some = told.some (omega arith) in
-                    let still = first_no-still told.answers false some.1 in
-                    (omega (arith, still, some.0, some.1, told.so_far, w.min-start.ensures), omega (arith, still, some.1, length-append told.answers (false ∷ [])))
-              ];
-            };
-            capacity = before.capacity;
-          }
-    ]
-
-pub returns-clause-kept : goal.returns-clause-kept
-returns-clause-kept g c =
-    let told = c.loop-place.invariant.told in
-    let start : c.loop-place.start ≡ first_no told.answers = elim (cases_eq c.loop-place.kept c.loop-place.place) [
-      | inl all ↦ (told.all all).1 ∙ omega (arith, (told.all all).0, told.so_far)
-      | inr fewer ↦ (told.some (omega arith)).0
-    ] in
-    (told.answers, c.loop-place.f, omega (arith, told.so_far), told.asked, c.truncate.ensures.items ∙ told.front, start)
+    let called : CalledAt g.F.FnMut c.loop-place.f x answer c.f-stays.new.self = record { shown = c.index.result; shows = refl; called = c.f-stays.ensures } in
+    let callable : TakesInTurn g.F.FnMut c.f-stays.new.self (drop (place + 1) old) = rw add-one ((next_asked g.F.FnMut c.loop-place.f old place x here before.callable).1 answer c.f-stays.new.self called) in
+    let e = exchanges now c.swap.new.self.items kept place (omega arith) (omega arith) c.swap.ensures.items in
+    record {
+      len = e.len ∙ before.len;
+      few = omega (arith, bit answer, before.few);
+      early = omega (arith, first_no-grown answers answer start place before.told.first before.told.so_far, first_no-within (answers ++ answer ∷ []), length-append answers (answer ∷ []), before.told.so_far);
+      callable = callable;
+      rest = λ i low. let u : i ≢ kept = omega arith in let v : i ≢ place = omega arith in e.others i u v ∙ before.rest i (omega arith);
+      told = told_more (CalledAt g.F.FnMut) old now c.swap.new.self.items c.args.f c.loop-place.f c.f-stays.new.self place kept start answer x (omega arith) before.few there here e called before.told;
+      capacity = omega (arith, c.swap.ensures.capacity, before.capacity);
+    }

@@ -1,4 +1,4 @@
-use Rattle.std.proofs.Common.{◌≡◌, ℕ, ◌<◌, ◌≤◌, Bool, List, length, take, drop, slice_get, vec_capacity}
+use Rattle.std.proofs.Common.{◌≡◌, ℕ, ◌≤◌, Bool, List, length, take, drop, slice_get, vec_capacity}
 use Rattle.std.specs.Fn.{CalledAt}
 use Rattle.std.specs.List.{items_where_true}
 use Rattle.std.specs.List.Retain.{ReturnsInTurn}
@@ -12,13 +12,13 @@ pub record Told {X P : Type 0} (calls : P → X → Bool → P → Type 0) (old 
   pub so_far : length answers ≡ place
   pub asked : ReturnsInTurn calls f answers old q
   pub front : take kept now ≡ items_where_true answers old
-  pub all : kept ≡ place → (first_no answers ≡ length answers) × (start ≡ length old)
-  pub some : kept < place → (start ≡ first_no answers) × (first_no answers < length answers)
+  pub first : start ≡ first_no answers
 
 abbrev pub invariant-loop-place : goal.invariant-loop-place
 invariant-loop-place g l = record {
   len : length l.items.items ≡ length l.initial.items.items;
   few : l.kept ≤ l.place;
+  early : l.start ≤ l.place;
   callable : TakesInTurn g.F.FnMut l.f (drop l.place l.fn.items.items);
   rest : (i : ℕ) → l.place ≤ i → slice_get l.items.items i ≡ slice_get l.fn.items.items i;
   told : Told (CalledAt g.F.FnMut) l.fn.items.items l.items.items l.fn.f l.f l.place l.kept l.start;
