@@ -22,10 +22,10 @@ mod methods;
 ///
 /// It may be read and written through `*`. A write may change its order: from a call of `deref_mut` until
 /// the next [`PeekMut::refresh`] the loan counts as written. When it is dropped, a written item goes down
-/// to its place, in at most the arity times the depth of the last place, in comparisons. A loan that is
-/// not written, or is of the one item of its heap, leaves the heap as it was and compares nothing. Where
-/// no other item is strictly greater than what was written last, that stays the first of the heap. The
-/// capacity stays.
+/// to its place, in at most the arity times the depth of the last place, in comparisons, and in at most
+/// one more than a pop may take. A loan that is not written, or is of the one item of its heap, leaves the
+/// heap as it was and compares nothing. Where no other item is strictly greater than what was written
+/// last, that stays the first of the heap. The capacity stays.
 ///
 /// A loan that is forgotten by `mem::forget` leaves an empty heap, which works on.
 ///
@@ -45,9 +45,9 @@ pub struct PeekMut<'a, T: Ord, const D: usize, I: Held<T> = Vec<T>> {
 }
 
 impl<'a, T: Ord + Drop, const D: usize, I: Held<T>> Drop for PeekMut<'a, T, D, I> {
-    ghost use Rattle.std.specs.Prelude.{◌≡◌, false, length};
+    ghost use Rattle.std.specs.Prelude.{◌≡◌, ◌+◌, false, length};
     ghost use Rattle.dary_heap.specs.Bag.{IsSameBag};
-    ghost use Rattle.dary_heap.specs.Bounds.{RisesWithin, sink_bound};
+    ghost use Rattle.dary_heap.specs.Bounds.{RisesWithin, pop_bound, sink_bound};
     ghost use Rattle.dary_heap.specs.HeapOrder.{IsHeapOrdered};
     ghost use Rattle.dary_heap.specs.Loan.{IsExceeded};
     ghost use Rattle.dary_heap.specs.PeekMut.{loaned, is_written};
@@ -59,6 +59,9 @@ impl<'a, T: Ord + Drop, const D: usize, I: Held<T>> Drop for PeekMut<'a, T, D, I
         ensures ordered { IsHeapOrdered T.cmp D self.exit.0.now.items }
         ensures counted { RisesWithin (loaned self.entry).comparisons self.exit.0.now.comparisons (sink_bound D (length (loaned self.entry).items)) }
         ensures capacity { self.exit.0.now.capacity ≡ (loaned self.entry).capacity }
+
+        // Where the last place is the first of its depth this says more.
+        ensures tight { RisesWithin (loaned self.entry).comparisons self.exit.0.now.comparisons (pop_bound D (length (loaned self.entry).items) + 1) }
 
         // What no other item exceeds stays the first, and then no item moves.
         ensures first { (IsExceeded T.cmp (loaned self.entry).items → ⊥) → front self.exit.0.now.items ≡ front (loaned self.entry).items }

@@ -1,18 +1,19 @@
 -- What becomes of the k greatest once an item more came.
-use Rattle.std.proofs.Common.{◌≡◌, ◌≢◌, ◌⊎◌, ℕ, ◌+◌, ◌*◌, ◌<◌, ◌≤◌, min, Bool, true, false, Option, Result, Ok, Err, OnOk, is_ok, List, [], ◌∷◌, ◌++◌, length, map, refl, sym, ap, ◌∙◌, subst, arith, inl, inr, Some, slice_set, Contains, length-append}
+use Rattle.std.proofs.Common.{◌≡◌, ◌≢◌, ℕ, ◌+◌, ◌*◌, ◌<◌, ◌≤◌, min, true, false, Option, Result, Ok, Err, OnOk, is_ok, List, [], ◌∷◌, ◌++◌, length, sym, ap, ◌∙◌, subst, arith, inl, inr, Some, slice_set, Contains, length-append}
 use Rattle.std.proofs.lemmas.List.{length-map}
 use Rattle.std.proofs.lemmas.List.Elements.{All-contains, All-contains_itself, All-weaker, All-map}
 use Rattle.std.proofs.lemmas.List.Sorted.{IsPermutation-sym, IsPermutation-trans, IsPermutation-cons, IsPermutation-middle, IsPermutation-map, IsPermutation-append_left, IsPermutation-push_more, length_permutation}
 use Rattle.std.specs.Cmp.{IsTotalOrder}
-use Rattle.std.specs.List.{All}
 use Rattle.std.specs.Ordering.{is_lt, is_some_and, ordering_reverse}
 use Rattle.std.specs.declared.cmp.Ordering.{Ordering}
 use Rattle.std.specs.declared.cmp.Ordering.TheVariants.{Less, Equal, Greater}
 use Rattle.std.specs.declared.cmp.Reverse.{Reverse}
 use Rattle.dary_heap.specs.Bag.{IsSameBag, IsGreatest}
-use Rattle.dary_heap.specs.Bounds.{RisesWithin}
+use Rattle.dary_heap.specs.Bounds.{RisesWithin, push_bound, pop_bound}
+use Rattle.dary_heap.specs.HeapOrder.{parent, depth}
 use Rattle.dary_heap.specs.State.{front}
 use Rattle.dary_heap.proofs.Bags.{came_cases}
+use Rattle.dary_heap.proofs.Depth.{depth-parent}
 use Rattle.dary_heap.proofs.Order.{not_greater-trans}
 use Rattle.dary_heap.proofs.States.{Contains-cases, Contains-first, Contains-later}
 use Rattle.dary_heap_uses.specs.Keeping.{KeepsGreatest, values}
@@ -129,6 +130,13 @@ module _ {X : Type 0} {cmp : X → X → Ordering} (total : IsTotalOrder cmp) (k
 -- a bound that is higher
 pub within_more : {old new : ℕ} (low high more : ℕ) → low ≤ high → RisesWithin old new low → RisesWithin old new (high + more)
 within_more low high more h rises = record { rises = rises.rises; within = omega (arith, h, rises.within) }
+
+-- sinking the first of n items costs no more than a push onto so many and a pop from them may
+pub sunk_within : {old new : ℕ} (D n k : ℕ) → 0 < n → n ≡ k → RisesWithin old new (pop_bound D n + 1) → RisesWithin old new (push_bound D k + pop_bound D k)
+sunk_within {old} {new} D n k some same rises =
+    let up : depth D n ≡ 1 + depth D (parent D n) = depth-parent D n some in
+    let fact : RisesWithin old new (push_bound D n + pop_bound D n) = record { rises = rises.rises; within = omega (arith, rises.within, up) } in
+    subst (λ m. RisesWithin old new (push_bound D m + pop_bound D m)) same fact
 
 -- an item more, within the bound for one
 pub counted_more : {X : Type 0} {old new : ℕ} (xs : List X) (x : X) (bound : ℕ) → old ≤ length xs * bound → RisesWithin old new bound → new ≤ length (xs ++ x ∷ []) * bound

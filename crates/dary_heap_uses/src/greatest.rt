@@ -22,7 +22,7 @@ mod tests;
 /// memory for the items that are kept.
 ///
 /// Beside one comparison with the least for each item that finds no room, the heap makes for each item at
-/// most as many as for a push onto `k` items and the pop that follows.
+/// most as many as for a push onto `k` items and a pop from `k`.
 ///
 /// ```
 /// let mut kept: DaryHeap<_, 4> = greatest(alloc, [3, 8, 1, 5], 2)?;
@@ -35,7 +35,7 @@ pub fn greatest<T: Ord + Drop, I: IntoIterator<Item = T>, const D: usize>(
     k: usize,
 ) -> Result<DaryHeap<Reverse<T>, D>, AllocError>
     requires { (it : I.IntoIter) → I.into_iter_gives stream it → I.IntoIter.can_next it × IsFinite (I.IntoIter.remaining it) }
-    ensures { IfOk result (λ kept. (it : I.IntoIter) × (items : List T) × I.into_iter_gives stream it × Drains I.IntoIter.next_gives it items × KeepsGreatest T.cmp k items (values kept.items) × (kept.comparisons ≤ length items * (push_bound D k + pop_bound D (k + 1)))) }
+    ensures { IfOk result (λ kept. (it : I.IntoIter) × (items : List T) × I.into_iter_gives stream it × Drains I.IntoIter.next_gives it items × KeepsGreatest T.cmp k items (values kept.items) × (kept.comparisons ≤ length items * (push_bound D k + pop_bound D k))) }
 {
     let mut kept = DaryHeap::new(alloc);
     for item in stream {
@@ -53,7 +53,7 @@ fn offer<T: Ord + Drop, const D: usize>(
 ) -> Result<(), AllocError>
     requires { length kept.old.items ≤ k }
     ensures greatest { OnOk result ((items : List T) → KeepsGreatest T.cmp k items (values kept.old.items) → KeepsGreatest T.cmp k (items ++ item ∷ []) (values kept.new.items)) }
-    ensures counted { OnOk result (RisesWithin kept.old.comparisons kept.new.comparisons (push_bound D k + pop_bound D (k + 1))) }
+    ensures counted { OnOk result (RisesWithin kept.old.comparisons kept.new.comparisons (push_bound D k + pop_bound D k)) }
     ensures few { OnOk result (length kept.new.items ≤ k) }
 {
     if kept.len() < k {

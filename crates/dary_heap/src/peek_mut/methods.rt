@@ -1,5 +1,5 @@
 //! How a loan begins, what may be done with it, and how it ends by a pop.
-ghost use Rattle.std.specs.Prelude.{◌≡◌, ◌-◌, ◌<◌, ◌↔◌, [], ◌∷◌, length, slice_index_or, false, Some, IsSome, IfSome, IsTrue};
+ghost use Rattle.std.specs.Prelude.{◌≡◌, ◌+◌, ◌-◌, ◌<◌, ◌↔◌, [], ◌∷◌, length, slice_index_or, false, Some, IsSome, IfSome, IsTrue};
 ghost use Rattle.std.specs.Bool.{OnFalse};
 ghost use Rattle.std.specs.Borrow.{sem, RestsIfNone};
 ghost use Rattle.dary_heap.specs.Bag.{IsSameBag};
@@ -111,6 +111,9 @@ impl<'a, T: Ord + Drop, const D: usize> PeekMut<'a, T, D> {
         ensures counted { RisesWithin (loaned self.old).comparisons (loaned self.new).comparisons (sink_bound D (length (loaned self.old).items)) }
         ensures capacity { (loaned self.new).capacity ≡ (loaned self.old).capacity }
         ensures same_reference { lender self.new ≡ lender self.old }
+
+        // Where the last place is the first of its depth this says more.
+        ensures tight { RisesWithin (loaned self.old).comparisons (loaned self.new).comparisons (pop_bound D (length (loaned self.old).items) + 1) }
 
         // Where it answers false no item moves. Where nothing was written, or one item is alone, nothing
         // is compared either.

@@ -1,10 +1,11 @@
-use Rattle.std.proofs.Common.{rules, ◌≡◌, ◌≤◌, ◌<◌, ◌+◌, [], ◌∷◌, ◌++◌, length, refl, sym, ap, ◌∙◌, subst, arith}
+use Rattle.std.proofs.Common.{rules, ◌≡◌, ◌≤◌, ◌<◌, [], ◌∷◌, ◌++◌, length, length-set, slice_set, refl, sym, ap, ◌∙◌, subst, arith}
 use Rattle.std.proofs.lemmas.Bool.{true≢false}
+use Rattle.std.proofs.lemmas.Option.{slice_get_within}
 use Rattle.dary_heap.specs.Bounds.{pop_bound}
 use Rattle.dary_heap.proofs.Bags.{has_none}
 use Rattle.dary_heap.proofs.Depth.{depth-later}
 use Rattle.dary_heap_uses.specs.Keeping.{KeepsGreatest, values}
-use Rattle.dary_heap_uses.proofs.Keeping.{on_ok_of, within_more, is_less, is_not_less, pushed, replaced, passed_by, none_kept}
+use Rattle.dary_heap_uses.proofs.Keeping.{on_ok_of, within_more, is_less, is_not_less, pushed, replaced, passed_by, none_kept, sunk_within}
 use Rattle.dary_heap_uses.proofs.greatest.offer.Goals as goal
 
 pub returns-then-len-k-clause-greatest : goal.returns-then-len-k-clause-greatest
@@ -17,7 +18,7 @@ pub returns-then-len-k-clause-counted : goal.returns-then-len-k-clause-counted
 returns-then-len-k-clause-counted g c =
     let room : length c.args.kept.now.items ≤ c.args.k = omega arith in
     on_ok_of c.push.result c.map_err.result c.map_err.ensures.variant c.push.ensures.counted
-    (λ counted. within_more _ _ (pop_bound g.row.D (c.args.k + 1)) (depth-later g.row.D (length c.args.kept.now.items) c.args.k room) counted)
+    (λ counted. within_more _ _ (pop_bound g.row.D c.args.k) (depth-later g.row.D (length c.args.kept.now.items) c.args.k room) counted)
 
 pub returns-then-lt-clause-greatest : goal.returns-then-lt-clause-greatest
 returns-then-lt-clause-greatest g c = λ items h.
@@ -28,6 +29,15 @@ returns-then-lt-clause-greatest g c = λ items h.
     full c.deref.ensures (c.in-Some.ensures.greatest.greatest c.deref.result.now c.deref.ensures)
     (is_less g.met.T.Ord.total g.met.T.Ord.matches_partial_cmp c.deref.result.now.0 c.args.item (sym c.lt.ensures ∙ c.if-lt.true))
     c.drop-least.ensures.bag in
+    search (rules, fact)
+
+pub returns-then-lt-clause-counted : goal.returns-then-lt-clause-counted
+returns-then-lt-clause-counted g c =
+    let items = c.in-Some.least.items.items in
+    let same : items ≡ c.args.kept.now.items = ap (λ s. s.items) c.in-Some.ensures.loaned in
+    let some : 0 < length items = slice_get_within items 0 c.deref.result.now c.deref.ensures in
+    let all : length (slice_set items 0 (record { 0 = c.args.item })) ≡ length items = length-set items 0 (record { 0 = c.args.item }) in
+    let fact = sunk_within g.row.D (length (slice_set items 0 (record { 0 = c.args.item }))) c.args.k (omega (arith, some, all)) (omega (arith, all, ap length same)) c.drop-least.ensures.tight in
     search (rules, fact)
 
 pub returns-else-lt-clause-greatest : goal.returns-else-lt-clause-greatest
