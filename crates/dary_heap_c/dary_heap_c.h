@@ -75,7 +75,7 @@ uint64_t dheap_append_i64(size_t arity, const int64_t *items, size_t items_len, 
                           size_t extra);
 
 /* Takes the items, which are heap ordered at the arity, as a heap, retains the odd ones, and writes its
- * slice: the odd numbers, heap ordered at the arity. `extra` isn't read. */
+ * slice: just the odd numbers among the items, heap ordered at the arity. `extra` isn't read. */
 uint64_t dheap_retain_i64(size_t arity, const int64_t *items, size_t items_len, int64_t *out, size_t out_len,
                           size_t extra);
 

@@ -1,3 +1,4 @@
 pub mod Churning
 pub mod Graph
+pub mod Parity
 pub mod Writing
