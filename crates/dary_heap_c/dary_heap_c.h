@@ -96,7 +96,10 @@ uint64_t dheap_shortest(size_t arity, const size_t *offsets, size_t offsets_len,
                         size_t targets_len, const size_t *costs, size_t costs_len, const size_t *froms,
                         size_t froms_len, const size_t *tos, size_t tos_len, uint64_t *out, size_t out_len);
 
-/* The comparisons of the same work. They take what those above take, and ask the same of it. */
+/* The comparisons of the same work. They take what those above take, and ask the same of it. hold makes
+ * none. For n items build makes at most 2 * (n - 1) from arity 2 on, and n * (n - 1) / 2 at arity 1. A push
+ * onto n items makes at most as many as place n is deep, and a pop from n items at most the arity times the
+ * depth of place n - 2. */
 uint64_t dheap_hold_counted(size_t arity, const int64_t *items, size_t items_len, int64_t *out,
                             size_t out_len, size_t extra);
 uint64_t dheap_build_counted(size_t arity, const int64_t *items, size_t items_len, int64_t *out,

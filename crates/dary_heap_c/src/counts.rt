@@ -1,7 +1,9 @@
 //! The same work by a judge that counts.
 //!
 //! The work is done on vectors by the functions that a heap is made of, which take a judge.
-ghost use Rattle.std.specs.Prelude.{◌≡◌, ◌<◌};
+ghost use Rattle.std.specs.Prelude.{◌≡◌, ◌+◌, ◌*◌, ◌<◌, ◌≤◌, length, IfOk};
+ghost use Rattle.dary_heap.specs.Bounds.{push_bound, pop_bound, build_bound, pops_bound};
+ghost use Rattle.dary_heap_c.specs.Counting.{IsCounted, pushes_bound};
 
 use dary_heap::sift::{Tally, build_with, mend_with, pop_with, push_with};
 use std::alloc::{AllocError, Global};
@@ -16,12 +18,15 @@ pub extern "C" fn dheap_hold_counted(
     out: &mut [i64],
     _extra: usize,
 ) -> u64
-    ensures { out.new ≡ out.old }
+    ensures unchanged { out.new ≡ out.old }
+    ensures counted { IsCounted 0 result }
 {
     at_arity!(arity, items.len() <= out.len(), hold(alloc, items))
 }
 
-fn hold<const D: usize>(alloc: Global, items: &[i64]) -> Result<u64, AllocError> {
+fn hold<const D: usize>(alloc: Global, items: &[i64]) -> Result<u64, AllocError>
+    ensures { IfOk result (λ made. made ≡ 0) }
+{
     let _numbers = Vec::from_slice(alloc, items)?;
     Ok(Tally::new().made())
 }
@@ -35,12 +40,15 @@ pub extern "C" fn dheap_build_counted(
     out: &mut [i64],
     _extra: usize,
 ) -> u64
-    ensures { out.new ≡ out.old }
+    ensures unchanged { out.new ≡ out.old }
+    ensures counted { IsCounted (build_bound arity (length items.now)) result }
 {
     at_arity!(arity, items.len() <= out.len(), build(alloc, items))
 }
 
-fn build<const D: usize>(alloc: Global, items: &[i64]) -> Result<u64, AllocError> {
+fn build<const D: usize>(alloc: Global, items: &[i64]) -> Result<u64, AllocError>
+    ensures { IfOk result (λ made. made ≤ build_bound D (length items.now)) }
+{
     let mut numbers = Vec::from_slice(alloc, items)?;
     let mut tally = Tally::new();
     build_with::<i64, Tally, D>(&mut numbers, &mut tally);
@@ -56,12 +64,15 @@ pub extern "C" fn dheap_push_counted(
     out: &mut [i64],
     _extra: usize,
 ) -> u64
-    ensures { out.new ≡ out.old }
+    ensures unchanged { out.new ≡ out.old }
+    ensures counted { IsCounted (pushes_bound arity (length items.now)) result }
 {
     at_arity!(arity, items.len() <= out.len(), push(alloc, items))
 }
 
-fn push<const D: usize>(alloc: Global, items: &[i64]) -> Result<u64, AllocError> {
+fn push<const D: usize>(alloc: Global, items: &[i64]) -> Result<u64, AllocError>
+    ensures { IfOk result (λ made. made ≤ pushes_bound D (length items.now)) }
+{
     let mut numbers = Vec::new(alloc);
     let mut tally = Tally::new();
     for number in items {
@@ -81,12 +92,15 @@ pub extern "C" fn dheap_pop_counted(
     out: &mut [i64],
     _extra: usize,
 ) -> u64
-    ensures { out.new ≡ out.old }
+    ensures unchanged { out.new ≡ out.old }
+    ensures counted { IsCounted (pops_bound arity (length items.now)) result }
 {
     at_arity!(arity, items.len() <= out.len(), pop(alloc, items))
 }
 
-fn pop<const D: usize>(alloc: Global, items: &[i64]) -> Result<u64, AllocError> {
+fn pop<const D: usize>(alloc: Global, items: &[i64]) -> Result<u64, AllocError>
+    ensures { IfOk result (λ made. made ≤ pops_bound D (length items.now)) }
+{
     let mut numbers = Vec::from_slice(alloc, items)?;
     let mut tally = Tally::new();
     while pop_with::<i64, Tally, D>(&mut numbers, &mut tally).is_some() {}
@@ -102,7 +116,8 @@ pub extern "C" fn dheap_sorted_counted(
     out: &mut [i64],
     _extra: usize,
 ) -> u64
-    ensures { out.new ≡ out.old }
+    ensures unchanged { out.new ≡ out.old }
+    ensures counted { IsCounted (pops_bound arity (length items.now)) result }
 {
     at_arity!(arity, items.len() <= out.len(), pop(alloc, items))
 }
@@ -215,12 +230,15 @@ pub extern "C" fn dheap_churn_counted(
     more: &[i64],
     out: &mut [i64],
 ) -> u64
-    ensures { out.new ≡ out.old }
+    ensures unchanged { out.new ≡ out.old }
+    ensures counted { IsCounted (length more.now * (push_bound arity (length items.now) + pop_bound arity (length items.now + 1))) result }
 {
     at_arity!(arity, more.len() <= out.len(), churn(alloc, items, more))
 }
 
-fn churn<const D: usize>(alloc: Global, items: &[i64], more: &[i64]) -> Result<u64, AllocError> {
+fn churn<const D: usize>(alloc: Global, items: &[i64], more: &[i64]) -> Result<u64, AllocError>
+    ensures { IfOk result (λ made. made ≤ length more.now * (push_bound D (length items.now) + pop_bound D (length items.now + 1))) }
+{
     let mut numbers = Vec::from_slice(alloc, items)?;
     let mut tally = Tally::new();
     for number in more {

@@ -1,7 +1,7 @@
 //! The search for a cheapest walk, on a graph that is handed in as lists of numbers.
 ghost use Rattle.std.specs.Prelude.{◌≡◌, ◌+◌, ◌<◌, ◌≤◌, All, length, map, sum, IfOk, OnOk, OnErr};
 ghost use Rattle.dary_heap.specs.Walk.{IsWithin};
-ghost use Rattle.dary_heap_c.specs.Graph.{IsGraph, nodes};
+ghost use Rattle.dary_heap_c.specs.Graph.{IsGraph, IsListed, IsCheapest, AreCheapest, nodes};
 ghost use Rattle.dary_heap_c.specs.Writing.{Writes, IsAnswered};
 
 use crate::writing::write;
@@ -29,7 +29,7 @@ pub extern "C" fn dheap_shortest(
     requires graph { IsGraph offsets.now targets.now costs.now }
     requires froms { All (λ from. from < nodes offsets.now) froms.now }
     requires pairs { length tos.now ≡ length froms.now }
-    ensures { IsAnswered (λ written. length written ≡ length froms.now) result out.old out.new }
+    ensures { IsAnswered (AreCheapest offsets.now targets.now costs.now froms.now tos.now) result out.old out.new }
 {
     if arity != 3 || out.len() < froms.len() {
         return u64::MAX;
@@ -50,18 +50,34 @@ fn search(
     requires froms { All (λ from. from < nodes offsets.now) froms.now }
     requires pairs { length tos.now ≡ length froms.now }
     requires fits { length froms.now ≤ length out.old }
-    ensures ok { IfOk result (λ count. Writes (λ written. length written ≡ length froms.now) count out.old out.new) }
+    ensures ok { IfOk result (λ count. Writes (AreCheapest offsets.now targets.now costs.now froms.now tos.now) count out.old out.new) }
     ensures err { OnErr result (out.new ≡ out.old) }
 {
     let edges = edges_of(alloc, offsets, targets, costs)?;
     let mut found = Vec::with_capacity(alloc, froms.len())?;
-    for (from, to) in froms.iter().zip(tos) {
-        let Ok(cost) = shortest_path(alloc, &edges, *from, *to) else {
-            return Err(AllocError);
-        };
-        found.push(cost.map_or(u64::MAX, |cost| cost as u64))?;
+    for place in 0..froms.len() {
+        found.push(cheapest(alloc, &edges, froms[place], tos[place])?)?;
     }
     Ok(write(&found, out))
+}
+
+/// The least cost of a walk, and `u64::MAX` where no walk leads to the goal.
+fn cheapest(
+    alloc: Global,
+    edges: &Vec<Vec<Edge>>,
+    from: usize,
+    to: usize,
+) -> Result<u64, AllocError>
+    requires graph { IsWithin (length edges.now.items) edges.now.items }
+    requires from { from < length edges.now.items }
+    ensures { IfOk result (IsCheapest edges.now.items from to) }
+{
+    match shortest_path(alloc, edges, from, to) {
+        // The greatest number is left for where no walk leads.
+        Ok(Some(cost)) if cost < usize::MAX => Ok(cost as u64),
+        Ok(None) => Ok(u64::MAX),
+        _ => Err(AllocError),
+    }
 }
 
 /// For each node the list of the edges that leave it.
@@ -72,7 +88,7 @@ fn edges_of(
     costs: &[usize],
 ) -> Result<Vec<Vec<Edge>>, AllocError>
     requires { IsGraph offsets.now targets.now costs.now }
-    ensures long { IfOk result (λ edges. length edges.items ≡ nodes offsets.now) }
+    ensures listed { IfOk result (λ edges. IsListed offsets.now targets.now costs.now edges.items) }
     ensures within { IfOk result (λ edges. IsWithin (nodes offsets.now) edges.items) }
 {
     let mut edges = Vec::with_capacity(alloc, offsets.len())?;

@@ -1,7 +1,7 @@
-use Rattle.std.proofs.Common.{◌<◌, All, arith}
+use Rattle.std.proofs.Common.{◌<◌, All, length, arith}
 use Rattle.std.proofs.lemmas.List.Elements.{All-push, All-take, All-drop}
 use Rattle.dary_heap_c.specs.Graph.{nodes}
-use Rattle.dary_heap_c.proofs.Edges.{ends_within}
+use Rattle.dary_heap_c.proofs.Edges.{ends_within, row_is, told_more}
 use Rattle.dary_heap_c.proofs.graph.edges_of.Goals as goal
 
 pub loop-node-preserved : goal.loop-node-preserved
@@ -14,7 +14,13 @@ loop-node-preserved c =
       long = grind (arith, l.invariant.long, c.in-Ok.ensures.len);
       ended = omega (arith, c.loop-node-test.true);
       within = rw c.in-Ok.ensures.items (All-push (λ row. All (λ edge. edge.node < n) row.items) l.edges.items row l.invariant.within ends);
+      ends = rw c.in-Ok.ensures.items (told_more _ l.edges.items row l.invariant.ends (row_is c.args.offsets.now c.args.targets.now _ l.node (length l.edges.items) l.invariant.long c.in_ok-row_of.ensures.nodes));
+      costs = rw c.in-Ok.ensures.items (told_more _ l.edges.items row l.invariant.costs (row_is c.args.offsets.now c.args.costs.now _ l.node (length l.edges.items) l.invariant.long c.in_ok-row_of.ensures.costs));
     }
 
-pub returns-clause-long : goal.returns-clause-long
-returns-clause-long c = omega (arith, c.loop-node.invariant.long, c.loop-node.invariant.ended, c.loop-node-test.false)
+pub returns-clause-listed : goal.returns-clause-listed
+returns-clause-listed c = record {
+  long = omega (arith, c.loop-node.invariant.long, c.loop-node.invariant.ended, c.loop-node-test.false);
+  targets_are = c.loop-node.invariant.ends;
+  costs_are = c.loop-node.invariant.costs;
+}
