@@ -43,6 +43,13 @@ module _ {X : Type 0} where
   picked-all (true ∷ bs) (x ∷ xs) long all = ap (λ zs. x ∷ zs) (picked-all bs xs (omega arith) (omega arith))
   picked-all (false ∷ bs) (x ∷ xs) long all = absurd (omega arith)
 
+  -- no more are picked than there are
+  pub few_picked : (bs : List Bool) (xs : List X) → length (items_where_true bs xs) ≤ length xs
+  few_picked [] xs = omega arith
+  few_picked (b ∷ bs) [] = omega arith
+  few_picked (true ∷ bs) (x ∷ xs) = omega (arith, few_picked bs xs)
+  few_picked (false ∷ bs) (x ∷ xs) = omega (arith, few_picked bs xs)
+
 pub first_no-within : (bs : List Bool) → first_no bs ≤ length bs
 first_no-within [] = omega arith
 first_no-within (true ∷ bs) = omega (arith, first_no-within bs)

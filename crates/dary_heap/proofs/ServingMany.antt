@@ -22,6 +22,7 @@ use Rattle.dary_heap.specs.HeapOrder.{IsHeapOrdered, depth}
 use Rattle.dary_heap.specs.Machine.{PopIf, Retain, Extend, Append, Clear, Popped, Done, ExtendRefused, AppendRefused}
 use Rattle.dary_heap.specs.Run.{Serves}
 use Rattle.dary_heap.specs.State.{IsJoined, front}
+use Rattle.dary_heap.proofs.Filtering.{few_picked}
 use Rattle.dary_heap.proofs.Fronts.{ordered_state, same_state}
 use Rattle.dary_heap.proofs.Order.{IsAtMost-none, read}
 use Rattle.dary_heap.proofs.Serving.{empty, rest, stays}
@@ -55,13 +56,6 @@ front_of_both xs ys all left x split in' = elim (Contains-append_cases xs ys x i
   | inl first ↦ Contains-append_left xs (all ++ []) x first
   | inr later ↦ Contains-append_right xs (all ++ []) x (subst (λ l. Contains l x) (sym (append-nil all)) (subst (λ l. Contains l x) (sym split) (Contains-append_left ys left x later)))
 ]
-
--- no more is picked than there was
-few_picked : {X : Type 0} (bs : List Bool) (xs : List X) → length (items_where_true bs xs) ≤ length xs
-few_picked [] xs = omega arith
-few_picked (b ∷ bs) [] = omega arith
-few_picked (true ∷ bs) (x ∷ xs) = omega (arith, few_picked bs xs)
-few_picked (false ∷ bs) (x ∷ xs) = omega (arith, few_picked bs xs)
 
 -- where all are picked, each answer was yes
 none_removed : {X : Type 0} (bs : List Bool) (xs : List X) → length bs ≡ length xs → items_where_true bs xs ≡ xs → first_no bs ≡ length bs
