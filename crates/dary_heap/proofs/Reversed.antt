@@ -1,6 +1,5 @@
 -- What a heap of reversed items says of the items themselves: a greatest of those is a least of these.
 use Rattle.std.proofs.Common.{◌≡◌, ◌≢◌, ℕ, ◌<◌, ◌≤◌, inl, inr, List, [], ◌∷◌, map, All, Contains, Some, arith, refl, ap, subst}
-use Rattle.std.specs.Cmp.{IsTotalOrder}
 use Rattle.std.specs.Ordering.{nat_cmp, ordering_then}
 use Rattle.std.specs.declared.cmp.Ordering.{Ordering}
 use Rattle.std.specs.declared.cmp.Ordering.TheVariants.{Greater}
@@ -9,11 +8,9 @@ use Rattle.std.proofs.lemmas.Cmp.{ranked, by_ranked}
 use Rattle.std.proofs.lemmas.List.Elements.{All-cons, All-contains_itself, All-map, All-tail, All-weaker}
 use Rattle.std.proofs.lemmas.List.Sorted.{All-permutation, IsPermutation-map}
 use Rattle.dary_heap.specs.Bag.{IsSameBag, IsGreatest}
-use Rattle.dary_heap.specs.HeapOrder.{IsHeapOrdered}
 use Rattle.dary_heap.specs.State.{front}
 use Rattle.dary_heap.proofs.Answered.{front_cases}
 use Rattle.dary_heap.proofs.Bags.{holds_none}
-use Rattle.dary_heap.proofs.Fronts.{ordered_state}
 use Rattle.dary_heap.proofs.States.{Contains-cases, Contains-first, Contains-later}
 
 -- numbers that are compared first, and whatever else where they are equal
@@ -55,12 +52,12 @@ module _ {X : Type 0} {cmp : X → X → Ordering} (key : X → ℕ) (by_key : (
   pub least : (items : List (Reverse X)) (item : Reverse X) → IsGreatest (λ x y. cmp y.0 x.0) items item → All (λ other. key item.0 ≤ key other) (map (λ (r : Reverse X). r.0) items)
   least items item h = All-mapped (λ other. key item.0 ≤ key other) (λ (r : Reverse X). r.0) items (λ x in'. by_key item.0 x.0 (h.none_above x in'))
 
-  -- where the key of the front is above a bound, so are all
-  pub all_above : (D bound : ℕ) (items : List (Reverse X)) → IsTotalOrder (λ (x y : Reverse X). cmp y.0 x.0) → IsHeapOrdered (λ (x y : Reverse X). cmp y.0 x.0) D items → ((item : Reverse X) → front items ≡ Some item → bound < key item.0) → All (λ other. bound < key other) (map (λ (r : Reverse X). r.0) items)
-  all_above D bound items total ordered h = All-mapped (λ other. bound < key other) (λ (r : Reverse X). r.0) items (λ x in'. elim (front_cases items) [
+  -- where the front is a greatest of the reversed ones and its key is above a bound, so are all
+  pub all_above : (bound : ℕ) (items : List (Reverse X)) → ((item : Reverse X) → front items ≡ Some item → IsGreatest (λ x y. cmp y.0 x.0) items item) → ((item : Reverse X) → front items ≡ Some item → bound < key item.0) → All (λ other. bound < key other) (map (λ (r : Reverse X). r.0) items)
+  all_above bound items shown h = All-mapped (λ other. bound < key other) (λ (r : Reverse X). r.0) items (λ x in'. elim (front_cases items) [
     | inl none ↦ absurd (holds_none x (subst (λ (xs : List (Reverse X)). Contains xs x) none in'))
     | inr some ↦
-        (let greatest = (ordered_state total D items ordered).greatest some.0 some.1 in
+        (let greatest = shown some.0 some.1 in
         let up = h some.0 some.1 in
         let under = by_key some.0.0 x.0 (greatest.none_above x in') in
         omega (arith, up, under))

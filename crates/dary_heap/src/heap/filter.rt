@@ -29,6 +29,7 @@ impl<T: Ord, const D: usize> DaryHeap<T, D> {
         requires { (item : T) → slice_get self.old.items 0 ≡ Some item → FnOnceTakesAt F.FnOnce predicate item }
         ensures empty { self.old.items ≡ [] → result ≡ None }
         ensures asked { (item : T) → slice_get self.old.items 0 ≡ Some item → (answer : Bool) × FnOnceReturnsAt F.FnOnce predicate item answer × (result ≡ (if answer then Some item else None)) }
+        ensures shown { (item : T) → slice_get self.old.items 0 ≡ Some item → IsGreatest T.cmp self.old.items item }
         ensures greatest { IfSome result (IsGreatest T.cmp self.old.items) }
         ensures bag { IfSome result (λ item. IsSameBag self.old.items (item ∷ self.new.items)) }
         ensures ordered { IsHeapOrdered T.cmp D self.new.items }

@@ -1,23 +1,13 @@
 use Rattle.std.proofs.Common.{rules, arith, ◌<◌, ◌≢◌, ◌≤◌, All, List, ap, map, subst}
 use Rattle.std.proofs.lemmas.List.Elements.{All-contains}
-use Rattle.std.specs.Cmp.{IsTotalOrder}
 use Rattle.std.specs.Ordering.{nat_cmp, ordering_then}
-use Rattle.std.specs.declared.cmp.Ordering.{Ordering}
 use Rattle.std.specs.declared.cmp.Ordering.TheVariants.{Greater}
 use Rattle.std.specs.declared.cmp.Reverse.{Reverse}
-use Rattle.dary_heap.specs.Contents.{Contents}
-use Rattle.dary_heap.specs.HeapOrder.{IsHeapOrdered}
 use Rattle.dary_heap.proofs.Answered.{left, took}
 use Rattle.dary_heap.proofs.Reversed.{Contains-map, all_above, all_left, least, not_above, went}
 use Rattle.dary_heap_uses.specs.Simulation.{Agenda}
 use Rattle.dary_heap_uses.specs.declared.simulation.Event.{Event}
 use Rattle.dary_heap_uses.proofs.simulation.Simulation.take_next.Goals as goal
-
-abbrev later_first : Reverse Event → Reverse Event → Ordering
-later_first x y = ordering_then (nat_cmp y.0.moment x.0.moment) (nat_cmp y.0.kind x.0.kind)
-
-total : IsTotalOrder later_first
-total = search rules
 
 no_later : (x y : Event) → ordering_then (nat_cmp x.moment y.moment) (nat_cmp x.kind y.kind) ≢ Greater → x.moment ≤ y.moment
 no_later x y = not_above x.moment y.moment (nat_cmp x.kind y.kind)
@@ -25,8 +15,7 @@ no_later x y = not_above x.moment y.moment (nat_cmp x.kind y.kind)
 pub returns-in_err-event-clause-none : goal.returns-in_err-event-clause-none
 returns-in_err-event-clause-none c =
     let items = c.self.inside.waiting.items in
-    let ordered : IsHeapOrdered later_first 3 items = subst (λ (w : Contents (Reverse Event)). IsHeapOrdered later_first 3 w.items) c.in_err-event.ensures.unchanged c.in_err-event.ensures.ordered in
-    let later = all_above (λ (e : Event). e.moment) no_later 3 c.args.end items total ordered (λ item first. let no = left _ items c.in_err-event.ensures.asked item first in search rules) in
+    let later = all_above (λ (e : Event). e.moment) no_later c.args.end items c.in_err-event.ensures.shown (λ item first. let no = left _ items c.in_err-event.ensures.asked item first in search rules) in
     rw c.from_residual.ensures (subst (λ (events : List Event). All (λ event. c.args.end < event.moment) events) (ap (λ (a : Agenda). a.waiting) c.self.view_is) later)
 
 pub invariant_of-self-2 : goal.invariant_of-self-2

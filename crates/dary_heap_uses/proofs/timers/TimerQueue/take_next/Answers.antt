@@ -1,21 +1,11 @@
 use Rattle.std.proofs.Common.{rules, ◌<◌, ◌≢◌, ◌≤◌, All, List, subst}
-use Rattle.std.specs.Cmp.{IsTotalOrder}
 use Rattle.std.specs.Ordering.{nat_cmp, ordering_then}
-use Rattle.std.specs.declared.cmp.Ordering.{Ordering}
 use Rattle.std.specs.declared.cmp.Ordering.TheVariants.{Greater}
 use Rattle.std.specs.declared.cmp.Reverse.{Reverse}
-use Rattle.dary_heap.specs.Contents.{Contents}
-use Rattle.dary_heap.specs.HeapOrder.{IsHeapOrdered}
 use Rattle.dary_heap.proofs.Answered.{left, took}
 use Rattle.dary_heap.proofs.Reversed.{Contains-map, all_above, least, not_above, went}
 use Rattle.dary_heap_uses.specs.declared.timers.Timer.{Timer}
 use Rattle.dary_heap_uses.proofs.timers.TimerQueue.take_next.Goals as goal
-
-abbrev later_first : Reverse Timer → Reverse Timer → Ordering
-later_first x y = ordering_then (nat_cmp y.0.moment x.0.moment) (nat_cmp y.0.name x.0.name)
-
-total : IsTotalOrder later_first
-total = search rules
 
 no_later : (x y : Timer) → ordering_then (nat_cmp x.moment y.moment) (nat_cmp x.name y.name) ≢ Greater → x.moment ≤ y.moment
 no_later x y = not_above x.moment y.moment (nat_cmp x.name y.name)
@@ -23,8 +13,7 @@ no_later x y = not_above x.moment y.moment (nat_cmp x.name y.name)
 pub returns-in_err-timer-clause-none_due : goal.returns-in_err-timer-clause-none_due
 returns-in_err-timer-clause-none_due c =
     let items = c.self.inside.waiting.items in
-    let ordered : IsHeapOrdered later_first 4 items = subst (λ (w : Contents (Reverse Timer)). IsHeapOrdered later_first 4 w.items) c.in_err-timer.ensures.unchanged c.in_err-timer.ensures.ordered in
-    let later = all_above (λ (t : Timer). t.moment) no_later 4 c.args.now items total ordered (λ item first. let no = left _ items c.in_err-timer.ensures.asked item first in search rules) in
+    let later = all_above (λ (t : Timer). t.moment) no_later c.args.now items c.in_err-timer.ensures.shown (λ item first. let no = left _ items c.in_err-timer.ensures.asked item first in search rules) in
     rw c.from_residual.ensures (subst (λ (timers : List Timer). All (λ timer. c.args.now < timer.moment) timers) c.self.view_is later)
 
 pub returns-clause-earliest : goal.returns-clause-earliest
