@@ -101,9 +101,11 @@ impl<T: Ord, const D: usize> DaryHeap<T, D> {
         self.items.is_empty()
     }
 
-    /// How many items there is room for. A push below it takes no memory. It compares nothing.
+    /// How many items there is room for, which is at least the length. A push below it takes no memory. It
+    /// compares nothing.
     pub fn capacity(&self) -> usize
-        ensures { result ≡ self.now.capacity }
+        ensures capacity { result ≡ self.now.capacity }
+        ensures holds { length self.now.items ≤ result }
     {
         self.items.capacity()
     }
