@@ -4,10 +4,11 @@ use Rattle.std.specs.List.{FoldsTo}
 use Rattle.dary_heap.specs.Bag.{IsSameBag}
 use Rattle.dary_heap_uses.specs.declared.simulation.Event.{Event}
 
--- what a caller sees of a simulation: the present moment, and the bag of the events that wait
+-- what a caller sees of a simulation: the present moment, the bag of the events that wait, and how many there is room for
 pub record Agenda : Type 0 where
   pub moment : ℕ
   pub waiting : List Event
+  pub room : ℕ
 
 -- an event that was handled, and those that its handler scheduled
 pub record Step : Type 0 where

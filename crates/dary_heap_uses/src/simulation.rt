@@ -1,14 +1,14 @@
 //! An event simulation: events are handled in the order of their moments, and what handles them
 //! schedules further ones.
 //!
-//! A clause sees a simulation as the `Agenda` of `specs/Simulation.antt`: the present moment, and the bag
-//! of the events that wait.
-ghost use Rattle.std.specs.Prelude.{◌≡◌, ◌+◌, ◌<◌, ◌≤◌, [], ◌∷◌, ◌++◌, List, All, map, length, IfSome, IfNone, IfOk, IfErr, OnOk, OnErr};
+//! A clause sees a simulation as the `Agenda` of `specs/Simulation.antt`: the present moment, the bag of
+//! the events that wait, and how many there is room for.
+ghost use Rattle.std.specs.Prelude.{◌≡◌, ◌+◌, ◌<◌, ◌≤◌, [], ◌∷◌, ◌++◌, List, All, map, length, IfSome, IfNone, IfOk, IfErr, OnOk, OnErr, IsOk};
 ghost use Rattle.dary_heap.specs.Bag.{IsSameBag};
 ghost use Rattle.dary_heap_uses.specs.Simulation.{Step, IsRun};
 
 use dary_heap::TernaryHeap;
-use std::alloc::Global;
+use std::alloc::{AllocError, Global};
 use std::cmp::Reverse;
 use std::marker::Model;
 
@@ -49,7 +49,7 @@ impl Model for Simulation {
 
     ghost Value = { Agenda };
 
-    ghost view = { λ simulation. record { moment = simulation.moment; waiting = map (λ event. event.0) simulation.waiting.items } };
+    ghost view = { λ simulation. record { moment = simulation.moment; waiting = map (λ event. event.0) simulation.waiting.items; room = simulation.waiting.capacity } };
 
     ghost invariant = { λ simulation. All (λ event. simulation.moment ≤ event.moment) (map (λ event. event.0) simulation.waiting.items) };
 }
@@ -59,6 +59,7 @@ impl Simulation {
     pub fn new(alloc: Global) -> Simulation
         ensures moment { result.moment ≡ 0 }
         ensures waiting { result.waiting ≡ [] }
+        ensures room { result.room ≡ 0 }
     {
         Simulation {
             moment: 0,
@@ -74,13 +75,33 @@ impl Simulation {
         self.moment
     }
 
+    /// Makes room for so many more events, and perhaps for some beyond. Below that room none is refused.
+    ///
+    /// It is refused only where that room was missing, and then nothing has changed.
+    pub fn reserve(&mut self, additional: usize) -> Result<(), AllocError>
+        ensures moment { self.new.moment ≡ self.old.moment }
+        ensures waiting { self.new.waiting ≡ self.old.waiting }
+        ensures room { OnOk result (length self.new.waiting + additional ≤ self.new.room) }
+        ensures succeeds { length self.old.waiting + additional ≤ self.old.room → IsOk result }
+        ensures unchanged { OnErr result (self.new ≡ self.old) }
+    {
+        self.waiting.reserve(additional)
+    }
+
     /// Schedules an event. The caller owes that it is not before the present moment.
     ///
-    /// Where there is no memory for it, it comes back and nothing has changed.
+    /// It takes memory only where all room is in use. Where there is none for it, it comes back, and
+    /// nothing has changed.
     pub fn schedule(&mut self, event: Event) -> Result<(), Event>
         requires { self.old.moment ≤ event.moment }
         ensures scheduled { OnOk result (IsSameBag (event ∷ self.old.waiting) self.new.waiting) }
         ensures moment { self.new.moment ≡ self.old.moment }
+        ensures room { self.old.room ≤ self.new.room }
+        ensures kept { length self.old.waiting < self.old.room → self.new.room ≡ self.old.room }
+
+        // It is refused only where all room is in use, and then nothing has changed.
+        ensures succeeds { length self.old.waiting < self.old.room → IsOk result }
+        ensures full { OnErr result (self.old.room ≤ length self.old.waiting) }
         ensures returned { IfErr result (λ back. back ≡ event) }
         ensures unchanged { OnErr result (self.new ≡ self.old) }
     {
@@ -94,9 +115,9 @@ impl Simulation {
     /// meanwhile, but no more than the budget allows. It gives the number of events that it handled: where
     /// that is below the budget, no event up to the end waits any more.
     ///
-    /// Where there is no memory for what the handler scheduled last, these events come back, and nothing is
-    /// handled after that. It takes the comparisons of a pop and of the pushes for each event that it
-    /// handles.
+    /// Where there is no room and no memory for what the handler scheduled last, these events come back, and
+    /// nothing is handled after that. It takes the comparisons of a pop and of the pushes for each event
+    /// that it handles.
     pub fn run<H: Handler>(
         &mut self,
         handler: &mut H,
@@ -106,6 +127,7 @@ impl Simulation {
         ensures ran { IfOk result (λ count. (steps : List Step) × (length steps ≡ count) × IsRun H.handles end self.old handler.old steps [] self.new handler.new) }
         ensures within { IfOk result (λ count. count ≤ budget) }
         ensures ended { IfOk result (λ count. count < budget → All (λ event. end < event.moment) self.new.waiting) }
+        ensures full { IfErr result (λ back. self.new.room < length self.new.waiting + length back.items) }
         ensures refused { IfErr result (λ back. (steps : List Step) × (last : Step) × (length steps < budget) × (back.items ≡ last.scheduled) × IsRun H.handles end self.old handler.old (steps ++ last ∷ []) back.items self.new handler.new) }
     {
         for handled in 0..budget {
@@ -123,6 +145,7 @@ impl Simulation {
         ensures present { IfSome result (λ event. self.new.moment ≡ event.moment) }
         ensures up_to_end { IfSome result (λ event. event.moment ≤ end) }
         ensures taken { IfSome result (λ event. IsSameBag self.old.waiting (event ∷ self.new.waiting)) }
+        ensures room { self.new.room ≡ self.old.room }
         ensures none { IfNone result (All (λ event. end < event.moment) self.old.waiting) }
         ensures unchanged { IfNone result (self.new ≡ self.old) }
     {
@@ -137,6 +160,7 @@ impl Simulation {
         requires { All (λ event. self.old.moment ≤ event.moment) events.items }
         ensures scheduled { OnOk result (IsSameBag (events.items ++ self.old.waiting) self.new.waiting) }
         ensures moment { self.new.moment ≡ self.old.moment }
+        ensures full { OnErr result (self.old.room < length self.old.waiting + length events.items) }
         ensures returned { IfErr result (λ back. back.items ≡ events.items) }
         ensures unchanged { OnErr result (self.new ≡ self.old) }
     {

@@ -1,6 +1,7 @@
 //! A timer queue: timers are set for a moment, and taken out once it has come.
 //!
-//! A clause sees a queue as the bag of the timers that are set, a list whose order says nothing.
+//! A clause sees a queue as the `Timers` of `specs/Timers.antt`: the bag of the timers that are set, a list
+//! whose order says nothing, and how many there is room for.
 ghost use Rattle.std.specs.Prelude.{◌≡◌, ◌+◌, ◌<◌, ◌≤◌, ◌↔◌, [], ◌∷◌, All, length, vec_len, vec_capacity, IfSome, IfNone, IfErr, OnOk, OnErr, IsOk};
 ghost use Rattle.dary_heap.specs.Bag.{IsSameBag};
 ghost use Rattle.dary_heap_uses.specs.Timers.{IsEarliest, AddsDue};
@@ -26,29 +27,49 @@ pub struct TimerQueue {
 }
 
 impl Model for TimerQueue {
-    ghost use Rattle.std.specs.Prelude.{List, map};
-    ghost use Rattle.dary_heap_uses.specs.declared.timers.Timer.{Timer};
+    ghost use Rattle.std.specs.Prelude.{map};
+    ghost use Rattle.dary_heap_uses.specs.Timers.{Timers};
 
-    ghost Value = { List Timer };
+    ghost Value = { Timers };
 
-    ghost view = { λ queue. map (λ timer. timer.0) queue.waiting.items };
+    ghost view = { λ queue. record { set = map (λ timer. timer.0) queue.waiting.items; room = queue.waiting.capacity } };
 }
 
 impl TimerQueue {
     /// A queue without timers. It takes no memory.
     pub fn new(alloc: Global) -> TimerQueue
-        ensures { result ≡ [] }
+        ensures set { result.set ≡ [] }
+        ensures room { result.room ≡ 0 }
     {
         TimerQueue {
             waiting: QuaternaryHeap::new(alloc),
         }
     }
 
-    /// Sets a timer. Where there is no memory for it, it comes back, and no timer is lost.
+    /// Makes room for so many more timers, and perhaps for some beyond. Below that room none is refused.
+    ///
+    /// It is refused only where that room was missing, and then nothing has changed.
+    pub fn reserve(&mut self, additional: usize) -> Result<(), AllocError>
+        ensures set { self.new.set ≡ self.old.set }
+        ensures room { OnOk result (length self.new.set + additional ≤ self.new.room) }
+        ensures succeeds { length self.old.set + additional ≤ self.old.room → IsOk result }
+        ensures unchanged { OnErr result (self.new ≡ self.old) }
+    {
+        self.waiting.reserve(additional)
+    }
+
+    /// Sets a timer. It takes memory only where all room is in use. Where there is none for it, it comes
+    /// back, and nothing has changed.
     ///
     /// It takes the comparisons of a push onto the timers that are set.
     pub fn set(&mut self, timer: Timer) -> Result<(), Timer>
-        ensures set { OnOk result (IsSameBag (timer ∷ self.old) self.new) }
+        ensures set { OnOk result (IsSameBag (timer ∷ self.old.set) self.new.set) }
+        ensures room { self.old.room ≤ self.new.room }
+        ensures kept { length self.old.set < self.old.room → self.new.room ≡ self.old.room }
+
+        // It is refused only where all room is in use, and then nothing has changed.
+        ensures succeeds { length self.old.set < self.old.room → IsOk result }
+        ensures full { OnErr result (self.old.room ≤ length self.old.set) }
         ensures returned { IfErr result (λ back. back ≡ timer) }
         ensures unchanged { OnErr result (self.new ≡ self.old) }
     {
@@ -62,10 +83,11 @@ impl TimerQueue {
     ///
     /// It takes the comparisons of a pop of the timers that are set, and none where it takes no timer.
     pub fn take_next(&mut self, now: u64) -> Option<Timer>
-        ensures earliest { IfSome result (IsEarliest self.old) }
+        ensures earliest { IfSome result (IsEarliest self.old.set) }
         ensures due { IfSome result (λ timer. timer.moment ≤ now) }
-        ensures taken { IfSome result (λ timer. IsSameBag self.old (timer ∷ self.new)) }
-        ensures none_due { IfNone result (All (λ timer. now < timer.moment) self.old) }
+        ensures taken { IfSome result (λ timer. IsSameBag self.old.set (timer ∷ self.new.set)) }
+        ensures room { self.new.room ≡ self.old.room }
+        ensures none_due { IfNone result (All (λ timer. now < timer.moment) self.old.set) }
         ensures unchanged { IfNone result (self.new ≡ self.old) }
     {
         let Reverse(timer) = self.waiting.pop_if(|Reverse(timer)| timer.moment <= now)?;
@@ -77,8 +99,9 @@ impl TimerQueue {
     /// It is refused only where the list has no room for all timers that are set and gets no memory for
     /// them; then nothing has changed. It takes the comparisons of a pop for each timer that it takes.
     pub fn take_due(&mut self, now: u64, due: &mut Vec<Timer>) -> Result<(), AllocError>
-        ensures taken { OnOk result (AddsDue now self.old self.new due.old.items due.new.items) }
-        ensures succeeds { vec_len due.old + length self.old ≤ vec_capacity due.old → IsOk result }
+        ensures taken { OnOk result (AddsDue now self.old.set self.new.set due.old.items due.new.items) }
+        ensures room { self.new.room ≡ self.old.room }
+        ensures succeeds { vec_len due.old + length self.old.set ≤ vec_capacity due.old → IsOk result }
         ensures unchanged { OnErr result (self.new ≡ self.old) }
         ensures none_added { OnErr result (due.new.items ≡ due.old.items) }
     {

@@ -1,8 +1,8 @@
-use Rattle.std.proofs.Common.{ℕ, ◌+◌, ◌∷◌, [], ◌++◌, ◌∙◌, ap, arith}
+use Rattle.std.proofs.Common.{ℕ, ◌+◌, ◌∷◌, [], ◌++◌, ◌∙◌, length, ap, arith}
 use Rattle.std.proofs.lemmas.List.{length_push}
 use Rattle.std.proofs.lemmas.Result.{err_from_is_err_and}
 use Rattle.dary_heap_uses.proofs.Running.{IsRun-more, IsRun-returned}
-use Rattle.dary_heap_uses.specs.Simulation.{Step}
+use Rattle.dary_heap_uses.specs.Simulation.{Agenda, Step}
 use Rattle.dary_heap_uses.proofs.simulation.Simulation.run.Goals as goal
 
 pub returns-in_err-schedule_all-clause-refused : goal.returns-in_err-schedule_all-clause-refused
@@ -27,3 +27,9 @@ loop-handled-preserved g c =
     let done = c.in_ok-schedule_all.ensures in
     let step : Step = record { event = c.in-Some.event; scheduled = c.handle.result.items } in
     (before.0 ++ step ∷ [], length_push before.0 step ∙ ap (λ (n : ℕ). n + 1) before.1, IsRun-more before.2 c.in-Some.event c.handle.result.items c.take_next.new.self c.handle.new.self next.forward next.present next.up_to_end next.taken c.handle.ensures.handled c.schedule_all.new.self done.moment done.scheduled)
+
+pub returns-in_err-schedule_all-clause-full : goal.returns-in_err-schedule_all-clause-full
+returns-in_err-schedule_all-clause-full g c =
+    let p = err_from_is_err_and c.from_residual.result c.from_residual.ensures.1 in
+    let failed = c.in_err-schedule_all.ensures in
+    rw (p.1, p.2) (omega (arith, failed.full, ap (λ (a : Agenda). a.room) failed.unchanged, ap (λ (a : Agenda). length a.waiting) failed.unchanged, ap length failed.returned))

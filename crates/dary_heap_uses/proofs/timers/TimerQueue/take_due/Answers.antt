@@ -1,4 +1,4 @@
-use Rattle.std.proofs.Common.{arith}
+use Rattle.std.proofs.Common.{arith, ◌∙◌}
 use Rattle.std.proofs.lemmas.List.Sorted.{length_permutation}
 use Rattle.dary_heap_uses.proofs.Taking.{IsTaking-more}
 use Rattle.dary_heap_uses.proofs.timers.TimerQueue.take_due.Goals as goal
@@ -13,4 +13,5 @@ loop-timer-preserved c =
     record {
       taking = IsTaking-more before.taking c.in-Some.timer _ _ found.earliest found.due found.taken c.push_reserved.ensures.items;
       room = omega (arith, length_permutation _ _ found.taken, c.push_reserved.ensures.len, c.push_reserved.ensures.capacity, before.room);
+      kept = found.room ∙ before.kept;
     }

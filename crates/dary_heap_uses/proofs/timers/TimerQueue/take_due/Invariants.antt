@@ -1,13 +1,14 @@
-use Rattle.std.proofs.Common.{◌+◌, ◌≤◌, length, vec_len, vec_capacity}
+use Rattle.std.proofs.Common.{◌≡◌, ◌+◌, ◌≤◌, length, vec_len, vec_capacity}
 use Rattle.dary_heap_uses.proofs.Taking.{IsTaking}
 use Rattle.dary_heap_uses.proofs.timers.TimerQueue.take_due.Given as goal
 
 -- what was taken so far, and room for the others
 abbrev pub invariant-loop-timer : goal.invariant-loop-timer
 invariant-loop-timer l = record {
-  taking : IsTaking l.now l.initial.self l.self l.initial.due.items l.due.items;
-  room : vec_len l.due + length l.self ≤ vec_capacity l.due;
+  taking : IsTaking l.now l.initial.self.set l.self.set l.initial.due.items l.due.items;
+  room : vec_len l.due + length l.self.set ≤ vec_capacity l.due;
+  kept : l.self.room ≡ l.initial.self.room;
 }
 
 abbrev pub decreases-loop-timer : goal.decreases-loop-timer
-decreases-loop-timer l = length l.self
+decreases-loop-timer l = length l.self.set

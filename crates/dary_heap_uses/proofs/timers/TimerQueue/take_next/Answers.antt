@@ -1,9 +1,10 @@
-use Rattle.std.proofs.Common.{rules, ◌<◌, ◌≢◌, ◌≤◌, All, List, subst}
+use Rattle.std.proofs.Common.{rules, ◌<◌, ◌≢◌, ◌≤◌, All, List, ap, subst}
 use Rattle.std.specs.Ordering.{nat_cmp, ordering_then}
 use Rattle.std.specs.declared.cmp.Ordering.TheVariants.{Greater}
 use Rattle.std.specs.declared.cmp.Reverse.{Reverse}
 use Rattle.dary_heap.proofs.Answered.{left, took}
 use Rattle.dary_heap.proofs.Reversed.{Contains-map, all_above, least, not_above, went}
+use Rattle.dary_heap_uses.specs.Timers.{Timers}
 use Rattle.dary_heap_uses.specs.declared.timers.Timer.{Timer}
 use Rattle.dary_heap_uses.proofs.timers.TimerQueue.take_next.Goals as goal
 
@@ -14,7 +15,7 @@ pub returns-in_err-timer-clause-none_due : goal.returns-in_err-timer-clause-none
 returns-in_err-timer-clause-none_due c =
     let items = c.self.inside.waiting.items in
     let later = all_above (λ (t : Timer). t.moment) no_later c.args.now items c.in_err-timer.ensures.shown (λ item first. let no = left _ items c.in_err-timer.ensures.asked item first in search rules) in
-    rw c.from_residual.ensures (subst (λ (timers : List Timer). All (λ timer. c.args.now < timer.moment) timers) c.self.view_is later)
+    rw c.from_residual.ensures (subst (λ (timers : List Timer). All (λ timer. c.args.now < timer.moment) timers) (ap (λ (queue : Timers). queue.set) c.self.view_is) later)
 
 pub returns-clause-earliest : goal.returns-clause-earliest
 returns-clause-earliest c =
@@ -29,4 +30,4 @@ pub returns-clause-due : goal.returns-clause-due
 returns-clause-due c = let yes = took _ c.self.inside.waiting.items c.in_ok-timer.field-0 c.in_ok-timer.ensures.empty c.in_ok-timer.ensures.asked in search rules
 
 pub returns-clause-taken : goal.returns-clause-taken
-returns-clause-taken c = went _ _ _ _ c.self.view_is c.in_ok-timer.ensures.bag
+returns-clause-taken c = went _ _ _ _ (ap (λ (queue : Timers). queue.set) c.self.view_is) c.in_ok-timer.ensures.bag
