@@ -3,5 +3,6 @@ pub mod Decimals
 pub mod Joined
 pub mod Numerals
 pub mod Parting
+pub mod Plain
 pub mod Scripts
 pub mod Written

@@ -26,7 +26,7 @@ from_word (x ∷ xs) (suc i) inside blank =
     ap (filter is_word) (slice_split-cons_yes is_blank x xs (blank 0 x (omega arith) (omega arith)))
     ∙ from_word xs i (omega (arith, inside)) (λ k d low high. blank (suc k) d (omega arith) (omega (arith, high)))
 
-kept : (word : List ℕ) (words : List (List ℕ)) → 0 < length word → filter is_word (word ∷ words) ≡ word ∷ filter is_word words
+pub kept : (word : List ℕ) (words : List (List ℕ)) → 0 < length word → filter is_word (word ∷ words) ≡ word ∷ filter is_word words
 kept word words some = ap (λ b. cond (not b) (word ∷ filter is_word words) (filter is_word words)) (ne_eqb (length word) 0 (λ e. omega (arith, some, e)))
 
 -- a word ends at the first blank after it

@@ -45,6 +45,10 @@ Says words (PopIf n) = IsWithNumber words (codes "popif") n
 Says words (Keep n) = IsWithNumber words (codes "keep") n
 Says words (Sorted n) = IsWithCount words (codes "sorted") n
 
+-- the first line of the script is this good line, and the rest comes after its line feed
+abbrev pub IsFirstLine : List ℕ → Line → List ℕ → Type 0
+IsFirstLine script line rest = (text : List ℕ) × (lines_of script ≡ text ∷ lines_of rest) × Says (words_of text) line
+
 -- the line is not blank
 abbrev pub has_command : Line → Bool
 has_command Blank = false

@@ -1,12 +1,12 @@
 //! One run of the program, over any streams.
-ghost use Rattle.std.specs.Prelude.{◌≡◌, ◌≢◌, ◌+◌, ◌<◌, ◌≤◌, ◌↔◌, ◌++◌, ◌∷◌, ℕ, List, [], All, map, codes, is_some, option_to_list, string_bytes, true, drop, IfOk, IfSome, IfErr, OnOk, MatchOption, filter};
+ghost use Rattle.std.specs.Prelude.{◌≡◌, ◌≢◌, ◌+◌, ◌<◌, ◌≤◌, ◌↔◌, ◌++◌, ◌∷◌, ℕ, List, [], All, map, codes, is_some, option_to_list, string_bytes, true, drop, IfOk, IfSome, IfNone, IfErr, OnOk, MatchOption, filter};
 ghost use Rattle.std.specs.Fmt.{decimal, sign_text};
 ghost use Rattle.std.specs.Io.KnownBytes.{Appends, Keeps, IsAtEnd};
 ghost use Rattle.dary_heap.specs.Reading as read;
 ghost use Rattle.dheap.specs.Answers.{answer, line, listing, text};
 ghost use Rattle.dheap.specs.Faults.{status_of};
 ghost use Rattle.dheap.specs.Program.{MayPrintFrom, MayPrint};
-ghost use Rattle.dheap.specs.Script.{CarryOut, CarryOutLine, IsFirstBad, Say, has_command, lines_left, lines_of};
+ghost use Rattle.dheap.specs.Script.{CarryOut, CarryOutLine, IsFirstBad, Say, Says, has_command, lines_left, lines_of, words_of};
 ghost use Rattle.dheap.specs.Words.{IsArity};
 ghost use Rattle.dheap.specs.declared.serve.fault.Fault.TheVariants.{BadLine};
 ghost use Rattle.dheap.specs.declared.serve.line.Line.{Line};
@@ -143,8 +143,7 @@ fn lines(alloc: Global, script: &[u8]) -> Result<Vec<Line>, Fault>
         let Some(here) = rest else {
             break;
         };
-        let (text, after) = first_line(here);
-        let Some(line) = Line::parse(text) else {
+        let Some((line, after)) = read_line(here) else {
             return Err(Fault::BadLine(number));
         };
         if line.has_command() {
@@ -153,6 +152,18 @@ fn lines(alloc: Global, script: &[u8]) -> Result<Vec<Line>, Fault>
         rest = after;
     }
     Ok(kept)
+}
+
+/// Reads the first line, unless it is bad, and gives what comes after its line feed.
+fn read_line(script: &[u8]) -> Option<(Line, Option<&[u8]>)>
+    ensures bad { IfNone result ((text : List ℕ) × (rest : List (List ℕ)) × (lines_of script.now ≡ text ∷ rest) × ((line : Line) → ¬ (Says (words_of text) line))) }
+    ensures said { IfSome result (λ read. (text : List ℕ) × (lines_of script.now ≡ text ∷ lines_left read.1) × Says (words_of text) read.0) }
+{
+    if let Some((line, rest)) = line::plain(script) {
+        return Some((line, Some(rest)));
+    }
+    let (text, rest) = first_line(script);
+    Some((Line::parse(text)?, rest))
 }
 
 /// The first line, and what comes after its line feed.

@@ -1,8 +1,8 @@
 //! The lines of a script.
-ghost use Rattle.std.specs.Prelude.{◌≡◌, ◌+◌, ◌-◌, ◌*◌, ◌^◌, ◌<◌, [], ◌∷◌, MatchOption, SomeIff};
+ghost use Rattle.std.specs.Prelude.{◌≡◌, ◌+◌, ◌-◌, ◌*◌, ◌^◌, ◌<◌, ◌++◌, ℕ, List, [], ◌∷◌, IfSome, MatchOption, SomeIff};
 ghost use Rattle.std.specs.Int.{IsInRange};
 ghost use Rattle.std.specs.Str.Parse.{IsNumeral, digits_value, signed_digits_value, without_leading_plus};
-ghost use Rattle.dheap.specs.Script.{Says, has_command, is_blank, words_of};
+ghost use Rattle.dheap.specs.Script.{IsFirstLine, Says, has_command, is_blank, words_of};
 ghost use Rattle.dheap.specs.Words.{IsCount, IsNumber};
 ghost use Rattle.dheap.specs.declared.serve.line.Line.{Line};
 
@@ -50,6 +50,54 @@ impl Line {
     {
         !matches!(self, Line::Blank)
     }
+}
+
+/// Reads the first line of a script in one pass, and gives what comes after its line feed, if the line is
+/// written plainly: with one space before a number, if it has one, and a line feed at once after it.
+pub fn plain(script: &[u8]) -> Option<(Line, &[u8])>
+    ensures { IfSome result (λ read. IsFirstLine script.now read.0 read.1.now) }
+{
+    if let Some(word) = script.strip_prefix(b"push ") {
+        let (item, rest) = plain_number(word)?;
+        return Some((Line::Push(item), rest));
+    }
+    if let Some(rest) = script.strip_prefix(b"pop\n") {
+        return Some((Line::Pop, rest));
+    }
+    if let Some(rest) = script.strip_prefix(b"len\n") {
+        return Some((Line::Len, rest));
+    }
+    let (bound, rest) = plain_number(script.strip_prefix(b"test ")?)?;
+    Some((Line::Test(bound), rest))
+}
+
+/// The number that stands before the first line feed, and what comes after that, if nothing else stands
+/// there and the number has no plus.
+fn plain_number(script: &[u8]) -> Option<(i64, &[u8])>
+    ensures { IfSome result (λ read. (word : List ℕ) × (script.now ≡ word ++ 10 ∷ read.1.now) × IsNumber word × (read.0 ≡ signed_digits_value 10 word)) }
+{
+    if let Some(digits) = script.strip_prefix(b"-") {
+        let (size, rest) = plain_natural(digits)?;
+        return Some((0i64.checked_sub_unsigned(size)?, rest));
+    }
+    let (size, rest) = plain_natural(script)?;
+    Some((0i64.checked_add_unsigned(size)?, rest))
+}
+
+/// The number whose decimal digits, at least one, are all that stands before the first line feed, and what
+/// comes after that, if it is in range.
+fn plain_natural(script: &[u8]) -> Option<(u64, &[u8])>
+    ensures { IfSome result (λ read. (word : List ℕ) × (script.now ≡ word ++ 10 ∷ read.1.now) × IsNumeral 10 word × (read.0 ≡ digits_value 10 word)) }
+{
+    let mut number = 0;
+    for place in 0..script.len() {
+        let byte = script[place];
+        if byte == b'\n' && place > 0 {
+            return Some((number, &script[place + 1..]));
+        }
+        number = with_digit(number, byte)?;
+    }
+    None
 }
 
 /// The first word, and what comes after it, if there is a word.

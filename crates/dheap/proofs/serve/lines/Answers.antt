@@ -11,13 +11,13 @@ loop-number-init c = ([], [], refl, refl, tt, search rules)
 pub loop-number-preserved : goal.loop-number-preserved
 loop-number-preserved c =
     let (before, lines, all, number, say, kept) = c.loop-number.invariant in
-    let text = c.first_line.result.0.now in
-    let line = c.in-Some-parse.line in (
+    let (text, first, says) = c.in-Some-read_line.ensures.said in
+    let line = c.in-Some-read_line.line in (
       before ++ text ∷ [],
       lines ++ line ∷ [],
-      all ∙ ap (λ r. before ++ lines_left r) c.in-Some.is ∙ ap (λ r. before ++ r) c.first_line.ensures ∙ sym (append_assoc before (text ∷ []) (lines_left c.first_line.result.1)),
+      all ∙ ap (λ r. before ++ lines_left r) c.in-Some.is ∙ ap (λ r. before ++ r) first ∙ sym (append_assoc before (text ∷ []) (lines_left c.in-Some-read_line.after)),
       omega (arith, number, length-append before (text ∷ [])),
-      Say-append before (text ∷ []) lines (line ∷ []) say (c.in-Some-parse.ensures, tt),
+      Say-append before (text ∷ []) lines (line ∷ []) say (says, tt),
       elim c.if-has_command.branch [
         | then-has_command+in_ok-push w ↦ kept_with lines line c.loop-number.kept.items _ kept (sym c.has_command.ensures ∙ w.if-has_command.true) (ap (λ v. v.items) w.kept-is ∙ w.in_ok-push.ensures.items)
         | else-has_command w ↦ kept_without lines line c.loop-number.kept.items _ kept (sym c.has_command.ensures ∙ w.if-has_command.false) (ap (λ v. v.items) w.kept-is)

@@ -1,0 +1,105 @@
+-- How a line is read that is written plainly.
+use Rattle.std.proofs.Common.{◌≡◌, ◌+◌, ◌-◌, ◌<◌, ◌==◌, ◌||◌, ℕ, ℤ, pos, neg_ℤ, ◌-ℤ◌, FitsSigned, codes, suc, Bool, true, false, cond, List, [], ◌∷◌, ◌++◌, All, length, take, drop, get_or, refl, sym, ap, subst, ◌∙◌, arith}
+use Rattle.std.specs.Int.{IsInRange, w64}
+use Rattle.std.specs.List.{slice_split, onto_first, filter}
+use Rattle.std.specs.Str.Parse.{AllDigits, IsNumeral, digits_value, signed_digits_value, starts_with_minus, without_leading_plus, without_leading_sign}
+use Rattle.std.proofs.Math.IntN.{+ℤ_idl}
+use Rattle.std.proofs.Math.Seq.{split_at}
+use Rattle.std.proofs.lemmas.Bool.{ne_eqb, eqb-true}
+use Rattle.std.proofs.lemmas.List.{length-take-le}
+use Rattle.std.proofs.lemmas.List.Elements.{All-cons, All-nil}
+use Rattle.std.proofs.lemmas.List.Splits.{slice_split_at, slice_split_none}
+use Rattle.std.proofs.lemmas.Str.Parse.{digit_at}
+use Rattle.dheap.specs.Script.{IsFirstLine, is_blank, lines_of, words_of}
+use Rattle.dheap.specs.Words.{IsNumber}
+use Rattle.dheap.specs.declared.serve.line.Line.TheVariants.{Push, Pop, Len, Test}
+use Rattle.dheap.proofs.Numerals.{IsReadTo}
+use Rattle.dheap.proofs.Parting.{kept}
+use Rattle.dheap.proofs.Scripts.{rest_whole}
+
+-- a number holds nothing that parts lines or words
+module _ (p : ℕ → Bool) (plus : p 43 ≡ false) (minus : p 45 ≡ false) (digit : (c : ℕ) → IsInRange 48 57 c → p c ≡ false) where
+  in_digits : (ds : List ℕ) → AllDigits 10 ds → All (λ c. p c ≡ false) ds
+  in_digits [] h = All-nil (λ c. p c ≡ false)
+  in_digits (c ∷ cs) h = All-cons (λ c. p c ≡ false) c cs (digit c (digit_at (c ∷ cs) 0 h (omega arith))) (in_digits cs h.1)
+
+  in_number : (word : List ℕ) → IsNumeral 10 (without_leading_sign word) → All (λ c. p c ≡ false) word
+  in_number [] h = All-nil (λ c. p c ≡ false)
+  in_number (c ∷ cs) h = by (c == 45) (c == 43) (eqb-true c 45) (eqb-true c 43) h where
+    by : (m q : Bool) → (m ≡ true → c ≡ 45) → (q ≡ true → c ≡ 43) → IsNumeral 10 (cond m cs (drop (cond q 1 0) (c ∷ cs))) → All (λ c. p c ≡ false) (c ∷ cs)
+    by true q e f k = All-cons (λ c. p c ≡ false) c cs (ap p (e refl) ∙ minus) (in_digits cs k.1)
+    by false true e f k = All-cons (λ c. p c ≡ false) c cs (ap p (f refl) ∙ plus) (in_digits cs k.1)
+    by false false e f k = in_digits (c ∷ cs) k.1
+
+digit_in_line : (c : ℕ) → IsInRange 48 57 c → (c == 10) ≡ false
+digit_in_line c h = ne_eqb c 10 (λ e. omega (arith, h, e))
+
+digit_in_word : (c : ℕ) → IsInRange 48 57 c → is_blank c ≡ false
+digit_in_word c h =
+    ap (λ b. b || (c == 9) || (c == 13)) (ne_eqb c 32 (λ e. omega (arith, h, e)))
+    ∙ ap (λ b. b || (c == 13)) (ne_eqb c 9 (λ e. omega (arith, h, e))) ∙ ne_eqb c 13 (λ e. omega (arith, h, e))
+
+-- a word that is a number, and the line feed after it
+module _ (word rest : List ℕ) (is : IsNumber word) where
+  pub number_line : lines_of (word ++ 10 ∷ rest) ≡ word ∷ lines_of rest
+  number_line = slice_split_at (λ b. b == 10) word 10 rest (in_number (λ b. b == 10) refl refl digit_in_line word is.0) refl
+
+  pub number_word : slice_split is_blank word ≡ word ∷ []
+  number_word = slice_split_none is_blank word (in_number is_blank refl refl digit_in_word word is.0)
+
+  some : (w : List ℕ) → IsNumeral 10 (without_leading_sign w) → 0 < length w
+  some [] h = absurd (omega (arith, h.0))
+  some (c ∷ cs) h = omega arith
+
+  pub only_word : words_of word ≡ word ∷ []
+  only_word = ap (filter _) number_word ∙ kept word [] (some word is.0)
+
+-- digits up to a line feed
+pub digits_to_line_feed : (xs : List ℕ) (i n b : ℕ) → IsReadTo xs i n → i < length xs → 0 < i → b ≡ get_or xs i 0 → b ≡ 10
+    → (word : List ℕ) × (xs ≡ word ++ 10 ∷ take (length xs - (i + 1)) (drop (i + 1) xs)) × IsNumeral 10 word × (n ≡ digits_value 10 word)
+digits_to_line_feed xs i n b read inside some at feed =
+    let next : suc i ≡ i + 1 = omega arith in (
+      take i xs,
+      split_at xs i 0 inside ∙ ap (λ c. take i xs ++ c ∷ drop (suc i) xs) (sym at ∙ feed)
+          ∙ ap (λ k. take i xs ++ 10 ∷ drop k xs) next ∙ ap (λ l. take i xs ++ 10 ∷ l) (sym (rest_whole xs (i + 1))),
+      (omega (arith, some, length-take-le i xs (omega (arith, inside))), read.digits),
+      read.number,
+    )
+
+-- digits alone have no sign
+pub unsigned : (ds : List ℕ) → IsNumeral 10 ds → (starts_with_minus ds ≡ false) × (without_leading_plus ds ≡ ds)
+unsigned [] h = absurd (omega (arith, h.0))
+unsigned (c ∷ cs) h =
+    let range = digit_at (c ∷ cs) 0 h.1 (omega arith) in
+    (ne_eqb c 45 (λ e. omega (arith, range, e)), ap (λ b. drop (cond b 1 0) (c ∷ cs)) (ne_eqb c 43 (λ e. omega (arith, range, e))))
+
+-- after a minus
+pub minus_number : (script after word rest : List ℕ) (size : ℕ) (n : ℤ) → script ≡ 45 ∷ after → after ≡ word ++ 10 ∷ rest → IsNumeral 10 word → size ≡ digits_value 10 word
+    → FitsSigned w64 (pos 0 -ℤ pos size) × (n ≡ pos 0 -ℤ pos size)
+    → (all : List ℕ) × (script ≡ all ++ 10 ∷ rest) × IsNumber all × (n ≡ signed_digits_value 10 all)
+minus_number script after word rest size n begins ends digits value (fits, is) =
+    let same : pos 0 -ℤ pos size ≡ neg_ℤ (pos (digits_value 10 word)) = ap (λ v. pos 0 -ℤ pos v) value ∙ +ℤ_idl (neg_ℤ (pos (digits_value 10 word))) in
+    (45 ∷ word, begins ∙ ap (λ xs. 45 ∷ xs) ends, (digits, subst (FitsSigned w64) same fits), is ∙ same)
+
+-- the lines that have a number
+module _ (script after word rest : List ℕ) (n : ℤ) (ends : after ≡ word ++ 10 ∷ rest) (is : IsNumber word) (value : n ≡ signed_digits_value 10 word) where
+  pub push_line : script ≡ 112 ∷ 117 ∷ 115 ∷ 104 ∷ 32 ∷ after → IsFirstLine script (Push n) rest
+  push_line begins = (
+    112 ∷ 117 ∷ 115 ∷ 104 ∷ 32 ∷ word,
+    ap lines_of (begins ∙ ap (λ xs. 112 ∷ 117 ∷ 115 ∷ 104 ∷ 32 ∷ xs) ends) ∙ ap (λ ls. onto_first 112 (onto_first 117 (onto_first 115 (onto_first 104 (onto_first 32 ls))))) (number_line word rest is),
+    (word, ap (λ ws. codes "push" ∷ ws) (only_word word rest is), is, value),
+  )
+
+  pub test_line : script ≡ 116 ∷ 101 ∷ 115 ∷ 116 ∷ 32 ∷ after → IsFirstLine script (Test n) rest
+  test_line begins = (
+    116 ∷ 101 ∷ 115 ∷ 116 ∷ 32 ∷ word,
+    ap lines_of (begins ∙ ap (λ xs. 116 ∷ 101 ∷ 115 ∷ 116 ∷ 32 ∷ xs) ends) ∙ ap (λ ls. onto_first 116 (onto_first 101 (onto_first 115 (onto_first 116 (onto_first 32 ls))))) (number_line word rest is),
+    (word, ap (λ ws. codes "test" ∷ ws) (only_word word rest is), is, value),
+  )
+
+-- the lines that have none
+pub pop_line : (script rest : List ℕ) → script ≡ 112 ∷ 111 ∷ 112 ∷ 10 ∷ rest → IsFirstLine script Pop rest
+pop_line script rest begins = (codes "pop", ap lines_of begins, refl)
+
+pub len_line : (script rest : List ℕ) → script ≡ 108 ∷ 101 ∷ 110 ∷ 10 ∷ rest → IsFirstLine script Len rest
+len_line script rest begins = (codes "len", ap lines_of begins, refl)
