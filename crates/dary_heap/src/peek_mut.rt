@@ -60,7 +60,7 @@ impl<'a, T: Ord + Drop, const D: usize, I: Held<T>> Drop for PeekMut<'a, T, D, I
         ensures counted { RisesWithin (loaned self.entry).comparisons self.exit.0.now.comparisons (sink_bound D (length (loaned self.entry).items)) }
         ensures capacity { self.exit.0.now.capacity ≡ (loaned self.entry).capacity }
 
-        // Where the last place is the first of its depth this says more.
+        // From arity 2 on this says more where the last place is the first of its depth.
         ensures tight { RisesWithin (loaned self.entry).comparisons self.exit.0.now.comparisons (pop_bound D (length (loaned self.entry).items) + 1) }
 
         // What no other item exceeds stays the first, and then no item moves.

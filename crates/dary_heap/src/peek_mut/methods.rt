@@ -112,7 +112,7 @@ impl<'a, T: Ord + Drop, const D: usize> PeekMut<'a, T, D> {
         ensures capacity { (loaned self.new).capacity ≡ (loaned self.old).capacity }
         ensures same_reference { lender self.new ≡ lender self.old }
 
-        // Where the last place is the first of its depth this says more.
+        // From arity 2 on this says more where the last place is the first of its depth.
         ensures tight { RisesWithin (loaned self.old).comparisons (loaned self.new).comparisons (pop_bound D (length (loaned self.old).items) + 1) }
 
         // Where it answers false no item moves. Where nothing was written, or one item is alone, nothing
