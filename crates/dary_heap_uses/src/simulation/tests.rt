@@ -32,6 +32,7 @@ fn balls_bounce_in_the_order_of_moments(rt: HostRuntime) -> Result<(), Fail> {
         heights: Vec::new(rt.alloc()),
     };
     let mut simulation = Simulation::new(rt.alloc());
+    simulation.reserve(2)?;
     simulation.schedule(Event { moment: 3, kind: 5 })?;
     simulation.schedule(Event { moment: 0, kind: 8 })?;
     // Bounces at 0 and 3, and two at 8.

@@ -5,6 +5,7 @@ use std::test::Fail;
 fn timers_are_taken_in_order_once_they_are_due(rt: HostRuntime) -> Result<(), Fail> {
     let timer = |moment, name| Timer { moment, name };
     let mut queue = TimerQueue::new(rt.alloc());
+    queue.reserve(4)?;
     queue.set(timer(30, 1))?;
     queue.set(timer(10, 2))?;
     queue.set(timer(20, 3))?;
