@@ -52,8 +52,9 @@ impl Line {
     }
 }
 
-/// Reads the first line of a script in one pass, and gives what comes after its line feed, if the line is
-/// written plainly: with one space before a number, if it has one, and a line feed at once after it.
+/// Reads the first line of a script in one pass, and gives what comes after its line feed, if that line is
+/// a push, a pop, a count or a test and written plainly: with one space before its number, if it has one,
+/// and a line feed at once after it. No answer says nothing of the line.
 pub fn plain(script: &[u8]) -> Option<(Line, &[u8])>
     ensures { IfSome result (λ read. IsFirstLine script.now read.0 read.1.now) }
 {
