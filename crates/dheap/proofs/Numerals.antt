@@ -4,6 +4,7 @@ use Rattle.std.specs.Char.{digit_value}
 use Rattle.std.specs.Int.{IsInRange}
 use Rattle.std.specs.Str.Parse.{AllDigits, IsNumeral, digits_value}
 use Rattle.std.proofs.lemmas.Int.Digits.{digits_more, digits_value_more}
+use Rattle.std.proofs.Math.Nat.{pow-le-pow_right}
 use Rattle.std.proofs.lemmas.List.{take_all}
 use Rattle.std.proofs.lemmas.Str.{digit_value_digit}
 use Rattle.std.proofs.lemmas.Str.Parse.{digit_at, digits_value-take-le}
@@ -43,3 +44,9 @@ all_read ds i n read whole some =
     let all : take i ds ≡ ds = take_all i ds whole in
     let same : n ≡ digits_value 10 ds = read.number ∙ ap (digits_value 10) all in
     (((some, subst (AllDigits 10) all read.digits), omega (arith, same, read.fits)), same)
+
+-- fewer than 19 digits leave room for one more
+pub room_for_one : (i n : ℕ) → i < 19 → n < 10 ^ i → n < 10 ^ 18
+room_for_one i n few short =
+    let fewer : i ≤ 18 = omega (arith, few) in
+    omega (arith, short, pow-le-pow_right {n = 10} (omega arith) fewer)

@@ -6,7 +6,7 @@ use Rattle.std.specs.Str.Parse.{AllDigits, IsNumeral, digits_value, signed_digit
 use Rattle.std.proofs.Math.IntN.{+ℤ_idl}
 use Rattle.std.proofs.Math.Seq.{split_at}
 use Rattle.std.proofs.lemmas.Bool.{ne_eqb, eqb-true}
-use Rattle.std.proofs.lemmas.List.{length-take-le}
+use Rattle.std.proofs.lemmas.List.{length-take-le, take-append-drop}
 use Rattle.std.proofs.lemmas.List.Elements.{All-cons, All-nil}
 use Rattle.std.proofs.lemmas.List.Splits.{slice_split_at, slice_split_none}
 use Rattle.std.proofs.lemmas.Str.Parse.{digit_at}
@@ -73,33 +73,45 @@ unsigned (c ∷ cs) h =
     let range = digit_at (c ∷ cs) 0 h.1 (omega arith) in
     (ne_eqb c 45 (λ e. omega (arith, range, e)), ap (λ b. drop (cond b 1 0) (c ∷ cs)) (ne_eqb c 43 (λ e. omega (arith, range, e))))
 
--- after a minus
-pub minus_number : (script after word rest : List ℕ) (size : ℕ) (n : ℤ) → script ≡ 45 ∷ after → after ≡ word ++ 10 ∷ rest → IsNumeral 10 word → size ≡ digits_value 10 word
+-- after a space and a minus
+pub minus_number : (script signed after word rest : List ℕ) (size : ℕ) (n : ℤ) → script ≡ 32 ∷ signed → signed ≡ 45 ∷ after → after ≡ word ++ 10 ∷ rest → IsNumeral 10 word → size ≡ digits_value 10 word
     → FitsSigned w64 (pos 0 -ℤ pos size) × (n ≡ pos 0 -ℤ pos size)
-    → (all : List ℕ) × (script ≡ all ++ 10 ∷ rest) × IsNumber all × (n ≡ signed_digits_value 10 all)
-minus_number script after word rest size n begins ends digits value (fits, is) =
+    → (all : List ℕ) × (script ≡ 32 ∷ all ++ 10 ∷ rest) × IsNumber all × (n ≡ signed_digits_value 10 all)
+minus_number script signed after word rest size n space minus ends digits value (fits, is) =
     let same : pos 0 -ℤ pos size ≡ neg_ℤ (pos (digits_value 10 word)) = ap (λ v. pos 0 -ℤ pos v) value ∙ +ℤ_idl (neg_ℤ (pos (digits_value 10 word))) in
-    (45 ∷ word, begins ∙ ap (λ xs. 45 ∷ xs) ends, (digits, subst (FitsSigned w64) same fits), is ∙ same)
+    (45 ∷ word, space ∙ ap (λ xs. 32 ∷ xs) (minus ∙ ap (λ xs. 45 ∷ xs) ends), (digits, subst (FitsSigned w64) same fits), is ∙ same)
+
+pub four : (name : List ℕ) (a b c d : ℕ) → length name ≡ 4 → get_or name 0 0 ≡ a → get_or name 1 0 ≡ b → get_or name 2 0 ≡ c → get_or name 3 0 ≡ d → name ≡ a ∷ b ∷ c ∷ d ∷ []
+four (w ∷ x ∷ y ∷ z ∷ []) a b c d len e f g h = rw (e, f, g, h) refl
+four [] a b c d len e f g h = absurd (omega (arith, len))
+four (w ∷ []) a b c d len e f g h = absurd (omega (arith, len))
+four (w ∷ x ∷ []) a b c d len e f g h = absurd (omega (arith, len))
+four (w ∷ x ∷ y ∷ []) a b c d len e f g h = absurd (omega (arith, len))
+four (w ∷ x ∷ y ∷ z ∷ v ∷ vs) a b c d len e f g h = absurd (omega (arith, len))
+
+-- the first four bytes and the others
+pub begins : (script name after word : List ℕ) → (name ≡ take 4 script) × (after ≡ drop 4 script) × (length after + 4 ≡ length script) → name ≡ word → script ≡ word ++ after
+begins script name after word (first, later, _) named = sym (take-append-drop 4 script) ∙ ap (λ n. n ++ drop 4 script) (sym first ∙ named) ∙ ap (λ a. word ++ a) (sym later)
 
 -- the lines that have a number
-module _ (script after word rest : List ℕ) (n : ℤ) (ends : after ≡ word ++ 10 ∷ rest) (is : IsNumber word) (value : n ≡ signed_digits_value 10 word) where
-  pub push_line : script ≡ 112 ∷ 117 ∷ 115 ∷ 104 ∷ 32 ∷ after → IsFirstLine script (Push n) rest
-  push_line begins = (
+module _ (script after word rest : List ℕ) (n : ℤ) (ends : after ≡ 32 ∷ word ++ 10 ∷ rest) (is : IsNumber word) (value : n ≡ signed_digits_value 10 word) where
+  pub push_line : script ≡ codes "push" ++ after → IsFirstLine script (Push n) rest
+  push_line first = (
     112 ∷ 117 ∷ 115 ∷ 104 ∷ 32 ∷ word,
-    ap lines_of (begins ∙ ap (λ xs. 112 ∷ 117 ∷ 115 ∷ 104 ∷ 32 ∷ xs) ends) ∙ ap (λ ls. onto_first 112 (onto_first 117 (onto_first 115 (onto_first 104 (onto_first 32 ls))))) (number_line word rest is),
+    ap lines_of (first ∙ ap (λ xs. codes "push" ++ xs) ends) ∙ ap (λ ls. onto_first 112 (onto_first 117 (onto_first 115 (onto_first 104 (onto_first 32 ls))))) (number_line word rest is),
     (word, ap (λ ws. codes "push" ∷ ws) (only_word word rest is), is, value),
   )
 
-  pub test_line : script ≡ 116 ∷ 101 ∷ 115 ∷ 116 ∷ 32 ∷ after → IsFirstLine script (Test n) rest
-  test_line begins = (
+  pub test_line : script ≡ codes "test" ++ after → IsFirstLine script (Test n) rest
+  test_line first = (
     116 ∷ 101 ∷ 115 ∷ 116 ∷ 32 ∷ word,
-    ap lines_of (begins ∙ ap (λ xs. 116 ∷ 101 ∷ 115 ∷ 116 ∷ 32 ∷ xs) ends) ∙ ap (λ ls. onto_first 116 (onto_first 101 (onto_first 115 (onto_first 116 (onto_first 32 ls))))) (number_line word rest is),
+    ap lines_of (first ∙ ap (λ xs. codes "test" ++ xs) ends) ∙ ap (λ ls. onto_first 116 (onto_first 101 (onto_first 115 (onto_first 116 (onto_first 32 ls))))) (number_line word rest is),
     (word, ap (λ ws. codes "test" ∷ ws) (only_word word rest is), is, value),
   )
 
 -- the lines that have none
-pub pop_line : (script rest : List ℕ) → script ≡ 112 ∷ 111 ∷ 112 ∷ 10 ∷ rest → IsFirstLine script Pop rest
-pop_line script rest begins = (codes "pop", ap lines_of begins, refl)
+pub pop_line : (script rest : List ℕ) → script ≡ codes "pop\n" ++ rest → IsFirstLine script Pop rest
+pop_line script rest first = (codes "pop", ap lines_of first, refl)
 
-pub len_line : (script rest : List ℕ) → script ≡ 108 ∷ 101 ∷ 110 ∷ 10 ∷ rest → IsFirstLine script Len rest
-len_line script rest begins = (codes "len", ap lines_of begins, refl)
+pub len_line : (script rest : List ℕ) → script ≡ codes "len\n" ++ rest → IsFirstLine script Len rest
+len_line script rest first = (codes "len", ap lines_of first, refl)

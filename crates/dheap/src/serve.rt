@@ -1,6 +1,6 @@
 //! One run of the program, over any streams.
-ghost use Rattle.std.specs.Prelude.{◌≡◌, ◌≢◌, ◌+◌, ◌<◌, ◌≤◌, ◌↔◌, ◌++◌, ◌∷◌, ℕ, List, [], All, map, codes, is_some, option_to_list, string_bytes, true, drop, IfOk, IfSome, IfNone, IfErr, OnOk, MatchOption, filter};
-ghost use Rattle.std.specs.Fmt.{decimal, sign_text};
+ghost use Rattle.std.specs.Prelude.{◌≡◌, ◌≢◌, ◌+◌, ◌-◌, ◌*◌, ◌/◌, ◌%◌, ◌<◌, ◌≤◌, ◌↔◌, ◌++◌, ◌∷◌, ℕ, List, [], All, map, codes, is_some, option_to_list, string_bytes, true, drop, IfOk, IfSome, IfNone, IfErr, OnOk, MatchOption, filter};
+ghost use Rattle.std.specs.Fmt.{decimal, sign_text, signed_decimal};
 ghost use Rattle.std.specs.Io.KnownBytes.{Appends, Keeps, IsAtEnd};
 ghost use Rattle.dary_heap.specs.Reading as read;
 ghost use Rattle.dheap.specs.Answers.{answer, line, listing, text};
@@ -32,6 +32,18 @@ const LONGEST: usize = 22;
 
 /// So many commands are made, run and answered at once.
 const AT_ONCE: usize = 1 << 10;
+
+/// The two digits of each number below 100.
+static PAIRS: [u8; 200] = *b"00010203040506070809\
+    10111213141516171819\
+    20212223242526272829\
+    30313233343536373839\
+    40414243444546474849\
+    50515253545556575859\
+    60616263646566676869\
+    70717273747576777879\
+    80818283848586878889\
+    90919293949596979899";
 
 /// Carries out the commands that `input` holds, writes the answers to `output`, and answers the status
 /// that the program ends with.
@@ -267,36 +279,59 @@ fn pass_on<W: Write>(held: &mut Vec<u8>, output: &mut W) -> io::Result<()>
     Ok(())
 }
 
-/// Writes the line of a reply, or nothing where the reply says that there was no memory. Answers whether
-/// it had one.
-fn write_reply<W: Write, const D: usize>(reply: &Reply<i64, D>, output: &mut W) -> io::Result<bool>
+/// Adds the line of a reply, or nothing where the reply says that there was no memory. Answers whether it
+/// had one.
+fn write_reply<const D: usize>(
+    reply: &Reply<i64, D>,
+    held: &mut Vec<u8>,
+) -> Result<bool, AllocError>
     ensures told { IfOk result (λ told. told ≡ is_some (answer (read.reply reply.now))) }
-    ensures written { OnOk result (Appends (W.contents output.old) (W.contents output.new) (line (answer (read.reply reply.now)))) }
+    ensures written { OnOk result (held.new.items ≡ held.old.items ++ line (answer (read.reply reply.now))) }
 {
     match reply {
-        Reply::Pushed | Reply::Done => output.write_all(b"ok\n")?,
-        Reply::Popped(Some(item)) => write_number(*item < 0, item.unsigned_abs(), output)?,
-        Reply::Popped(None) | Reply::Asked(None) => output.write_all(b"none\n")?,
-        Reply::Asked(Some(true)) => output.write_all(b"yes\n")?,
-        Reply::Asked(Some(false)) => output.write_all(b"no\n")?,
-        Reply::Len(count) => write_number(false, *count as u64, output)?,
-        Reply::Taken(items) => write_items(items.as_slice(), output)?,
+        Reply::Pushed | Reply::Done => held.extend_from_slice(b"ok\n")?,
+        Reply::Popped(Some(item)) => write_item(*item, b'\n', held)?,
+        Reply::Popped(None) | Reply::Asked(None) => held.extend_from_slice(b"none\n")?,
+        Reply::Asked(Some(true)) => held.extend_from_slice(b"yes\n")?,
+        Reply::Asked(Some(false)) => held.extend_from_slice(b"no\n")?,
+        Reply::Len(count) => write_number(false, *count as u64, b'\n', held)?,
+        Reply::Taken(items) => write_items(items.as_slice(), held)?,
         _ => return Ok(false),
     }
     Ok(true)
 }
 
-/// Writes the line of a number, after a minus if it is negative.
-fn write_number<W: Write>(negative: bool, size: u64, output: &mut W) -> io::Result<()>
-    ensures { OnOk result (Appends (W.contents output.old) (W.contents output.new) (sign_text negative ++ decimal size ++ codes "\n")) }
+/// Adds the line of a listing.
+fn write_items(items: &[i64], held: &mut Vec<u8>) -> Result<(), AllocError>
+    ensures { OnOk result (held.new.items ≡ held.old.items ++ (listing items.now ++ codes "\n")) }
 {
-    let mut line = [b'\n'; LONGEST];
+    let Some((last, others)) = items.split_last() else {
+        return held.extend_from_slice(b"none\n");
+    };
+    for item in others {
+        write_item(*item, b' ', held)?;
+    }
+    write_item(*last, b'\n', held)
+}
+
+/// Adds a number and a byte after it.
+fn write_item(item: i64, after: u8, held: &mut Vec<u8>) -> Result<(), AllocError>
+    ensures { OnOk result (held.new.items ≡ held.old.items ++ (signed_decimal item ++ after ∷ [])) }
+{
+    write_number(item < 0, item.unsigned_abs(), after, held)
+}
+
+/// Adds a number, after a minus if it is negative, and a byte after it.
+fn write_number(negative: bool, size: u64, after: u8, held: &mut Vec<u8>) -> Result<(), AllocError>
+    ensures { OnOk result (held.new.items ≡ held.old.items ++ (sign_text negative ++ decimal size ++ after ∷ [])) }
+{
+    let mut line = [after; LONGEST];
     let digits = put_digits(size, &mut line);
     if !negative {
-        return output.write_all(&line[digits..]);
+        return held.extend_from_slice(&line[digits..]);
     }
     line[digits - 1] = b'-';
-    output.write_all(&line[digits - 1..])
+    held.extend_from_slice(&line[digits - 1..])
 }
 
 /// Puts the digits of a number before the last byte of a line, and answers where they begin.
@@ -307,26 +342,26 @@ fn put_digits(size: u64, line: &mut [u8; LONGEST]) -> usize
 {
     let mut begin = LONGEST - 1;
     let mut rest = size;
-    while rest >= 10 {
-        begin -= 1;
-        line[begin] = b'0' + (rest % 10) as u8;
-        rest /= 10;
+    while rest >= 100 {
+        put_pair(rest % 100, line, begin);
+        begin -= 2;
+        rest /= 100;
     }
-    begin -= 1;
-    line[begin] = b'0' + rest as u8;
-    begin
+    if rest < 10 {
+        line[begin - 1] = b'0' + rest as u8;
+        return begin - 1;
+    }
+    put_pair(rest, line, begin);
+    begin - 2
 }
 
-/// Writes the line of a listing.
-fn write_items<W: Write>(items: &[i64], output: &mut W) -> io::Result<()>
-    ensures { OnOk result (Appends (W.contents output.old) (W.contents output.new) (listing items.now ++ codes "\n")) }
+/// Puts the two digits of a number before a place of a line.
+fn put_pair(number: u64, line: &mut [u8; LONGEST], end: usize)
+    requires { (number < 100) × (2 ≤ end) × (end ≤ 22) }
+    ensures put { drop (end - 2) line.new ≡ (48 + number / 10) ∷ (48 + number % 10) ∷ drop end line.old }
 {
-    let Some((first, rest)) = items.split_first() else {
-        return output.write_all(b"none\n");
-    };
-    write!(output, "{first}")?;
-    for item in rest {
-        write!(output, " {item}")?;
-    }
-    output.write_all(b"\n")
+    let place = number as usize * 2;
+    let (tens, units) = (PAIRS[place], PAIRS[place + 1]);
+    line[end - 1] = units;
+    line[end - 2] = tens;
 }

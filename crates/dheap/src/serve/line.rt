@@ -1,7 +1,7 @@
 //! The lines of a script.
-ghost use Rattle.std.specs.Prelude.{◌≡◌, ◌+◌, ◌-◌, ◌*◌, ◌^◌, ◌<◌, ◌++◌, ℕ, List, [], ◌∷◌, IfSome, MatchOption, SomeIff};
+ghost use Rattle.std.specs.Prelude.{◌≡◌, ◌+◌, ◌-◌, ◌*◌, ◌^◌, ◌<◌, ◌≤◌, ◌++◌, ℕ, List, [], ◌∷◌, length, take, IfSome, MatchOption, SomeIff};
 ghost use Rattle.std.specs.Int.{IsInRange};
-ghost use Rattle.std.specs.Str.Parse.{IsNumeral, digits_value, signed_digits_value, without_leading_plus};
+ghost use Rattle.std.specs.Str.Parse.{AllDigits, IsNumeral, digits_value, signed_digits_value, without_leading_plus};
 ghost use Rattle.dheap.specs.Script.{IsFirstLine, Says, has_command, is_blank, words_of};
 ghost use Rattle.dheap.specs.Words.{IsCount, IsNumber};
 ghost use Rattle.dheap.specs.declared.serve.line.Line.{Line};
@@ -58,30 +58,31 @@ impl Line {
 pub fn plain(script: &[u8]) -> Option<(Line, &[u8])>
     ensures { IfSome result (λ read. IsFirstLine script.now read.0 read.1.now) }
 {
-    if let Some(word) = script.strip_prefix(b"push ") {
-        let (item, rest) = plain_number(word)?;
-        return Some((Line::Push(item), rest));
+    let (name, after) = script.split_first_chunk::<4>()?;
+    match name {
+        b"pop\n" => return Some((Line::Pop, after)),
+        b"len\n" => return Some((Line::Len, after)),
+        _ => {}
     }
-    if let Some(rest) = script.strip_prefix(b"pop\n") {
-        return Some((Line::Pop, rest));
+    let (number, rest) = plain_number(after)?;
+    match name {
+        b"push" => Some((Line::Push(number), rest)),
+        b"test" => Some((Line::Test(number), rest)),
+        _ => None,
     }
-    if let Some(rest) = script.strip_prefix(b"len\n") {
-        return Some((Line::Len, rest));
-    }
-    let (bound, rest) = plain_number(script.strip_prefix(b"test ")?)?;
-    Some((Line::Test(bound), rest))
 }
 
-/// The number that stands before the first line feed, and what comes after that, if nothing else stands
-/// there and the number has no plus.
+/// The number that stands between a space and the first line feed, and what comes after that, if nothing
+/// else stands there and the number has no plus.
 fn plain_number(script: &[u8]) -> Option<(i64, &[u8])>
-    ensures { IfSome result (λ read. (word : List ℕ) × (script.now ≡ word ++ 10 ∷ read.1.now) × IsNumber word × (read.0 ≡ signed_digits_value 10 word)) }
+    ensures { IfSome result (λ read. (word : List ℕ) × (script.now ≡ 32 ∷ word ++ 10 ∷ read.1.now) × IsNumber word × (read.0 ≡ signed_digits_value 10 word)) }
 {
-    if let Some(digits) = script.strip_prefix(b"-") {
+    let word = script.strip_prefix(b" ")?;
+    if let Some(digits) = word.strip_prefix(b"-") {
         let (size, rest) = plain_natural(digits)?;
         return Some((0i64.checked_sub_unsigned(size)?, rest));
     }
-    let (size, rest) = plain_natural(script)?;
+    let (size, rest) = plain_natural(word)?;
     Some((0i64.checked_add_unsigned(size)?, rest))
 }
 
@@ -90,15 +91,28 @@ fn plain_number(script: &[u8]) -> Option<(i64, &[u8])>
 fn plain_natural(script: &[u8]) -> Option<(u64, &[u8])>
     ensures { IfSome result (λ read. (word : List ℕ) × (script.now ≡ word ++ 10 ∷ read.1.now) × IsNumeral 10 word × (read.0 ≡ digits_value 10 word)) }
 {
-    let mut number = 0;
-    for place in 0..script.len() {
-        let byte = script[place];
-        if byte == b'\n' && place > 0 {
-            return Some((number, &script[place + 1..]));
-        }
-        number = with_digit(number, byte)?;
+    let (number, count) = leading_digits(script);
+    match &script[count..] {
+        [b'\n', rest @ ..] if count > 0 => Some((number, rest)),
+        _ => None,
     }
-    None
+}
+
+/// The number that the first bytes write that are digits, at most 19 of them, and how many they are. So
+/// many fit, whichever they are.
+fn leading_digits(script: &[u8]) -> (u64, usize)
+    ensures { (result.1 ≤ length script.now) × AllDigits 10 (take result.1 script.now) × (result.0 ≡ digits_value 10 (take result.1 script.now)) }
+{
+    let most = script.len().min(19);
+    let mut number = 0;
+    for place in 0..most {
+        let byte = script[place];
+        if !byte.is_ascii_digit() {
+            return (number, place);
+        }
+        number = number * 10 + u64::from(byte - b'0');
+    }
+    (number, most)
 }
 
 /// The first word, and what comes after it, if there is a word.

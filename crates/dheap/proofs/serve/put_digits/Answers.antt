@@ -1,22 +1,33 @@
-use Rattle.std.proofs.Common.{◌-◌, refl, ◌∙◌, arith, length-set}
-use Rattle.dheap.proofs.Decimals.{first_digit, next_digit, one_place_fewer}
+use Rattle.std.proofs.Common.{◌++◌, ◌-◌, ◌/◌, refl, ap, ◌∙◌, arith}
+use Rattle.std.specs.Fmt.{decimal}
+use Rattle.dheap.proofs.Decimals.{next_pair, first_pair, one_digit, put_before, two_places_fewer}
 use Rattle.dheap.proofs.serve.put_digits.Goals as goal
+
+pub loop-rest-init : goal.loop-rest-init
+loop-rest-init c = record {
+  low = omega arith;
+  high = omega arith;
+  fits = (9, refl, omega (arith, c.ranges.size.fits));
+  put = refl;
+}
 
 pub loop-rest-preserved : goal.loop-rest-preserved
 loop-rest-preserved c =
     let l = c.loop-rest in
-    let some = l.invariant in
-    let room = one_place_fewer (l.begin - 1) l.rest c.loop-rest-test.true some.fits in
+    let large = c.loop-rest-test.true in
+    let fewer = two_places_fewer l.invariant.fits.0 l.begin l.rest large l.invariant.fits.1 l.invariant.fits.2 in
     record {
-      low = omega (arith, room.0);
-      high = omega (arith, some.high);
-      fits = room.1;
-      len = length-set l.line (l.begin - 1) _ ∙ some.len;
-      put = next_digit l.rest l.begin _ l.line (omega (arith, some.low)) (omega (arith, some.high, some.len)) c.loop-rest-test.true l.auto.rest-fits.fits refl ∙ some.put;
+      low = omega (arith, fewer.1);
+      high = omega (arith, l.invariant.high);
+      fits = fewer;
+      put = ap (λ t. decimal (l.rest / 100) ++ t) c.put_pair.ensures.put ∙ next_pair l.rest _ large l.auto.rest-fits.fits ∙ l.invariant.put;
     }
 
-pub returns-clause-put : goal.returns-clause-put
-returns-clause-put c =
+pub returns-then-rest-lt10-clause-put : goal.returns-then-rest-lt10-clause-put
+returns-then-rest-lt10-clause-put c =
     let l = c.loop-rest in
     let some = l.invariant in
-    first_digit l.rest l.begin _ l.line (omega (arith, some.low)) (omega (arith, some.high, some.len)) (omega (arith, c.loop-rest-test.false)) refl ∙ some.put
+    put_before l.line (l.begin - 1) l.begin _ (omega (arith, some.low)) (omega (arith, some.high)) ∙ one_digit l.rest _ _ c.if-rest-lt10.true refl ∙ some.put
+
+pub returns-clause-put : goal.returns-clause-put
+returns-clause-put c = c.put_pair-2.ensures.put ∙ first_pair c.loop-rest.rest _ c.if-rest-lt10.false c.loop-rest-test.false ∙ c.loop-rest.invariant.put

@@ -1,14 +1,13 @@
-use Rattle.std.proofs.Common.{◌≡◌, ◌++◌, ◌-◌, ◌^◌, ◌<◌, ◌≤◌, length, drop}
+use Rattle.std.proofs.Common.{◌≡◌, ℕ, suc, ◌+◌, ◌*◌, ◌++◌, ◌^◌, ◌<◌, ◌≤◌, drop}
 use Rattle.std.specs.Fmt.{decimal}
 use Rattle.dheap.proofs.serve.put_digits.Given as goal
 
 -- the digits from this place on are put, and there is room for the others and a sign
 abbrev pub invariant-loop-rest : goal.invariant-loop-rest
 invariant-loop-rest l = record {
-  low : 2 ≤ l.begin;
+  low : 3 ≤ l.begin;
   high : l.begin ≤ 21;
-  fits : l.rest < 10 ^ (l.begin - 1);
-  len : length l.line ≡ 22;
+  fits : (k : ℕ) × (l.begin ≡ k * 2 + 3) × (l.rest < 100 ^ suc k);
   put : decimal l.rest ++ drop l.begin l.line ≡ decimal l.fn.size ++ drop 21 l.fn.line;
 }
 
