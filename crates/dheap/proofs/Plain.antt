@@ -1,21 +1,18 @@
 -- How a line is read that is written plainly.
-use Rattle.std.proofs.Common.{◌≡◌, ◌+◌, ◌-◌, ◌<◌, ◌==◌, ◌||◌, ℕ, ℤ, pos, neg_ℤ, ◌-ℤ◌, FitsSigned, codes, suc, Bool, true, false, cond, List, [], ◌∷◌, ◌++◌, All, length, take, drop, get_or, refl, sym, ap, subst, ◌∙◌, arith}
+use Rattle.std.proofs.Common.{◌≡◌, ◌+◌, ◌<◌, ◌==◌, ◌||◌, ℕ, ℤ, pos, neg_ℤ, ◌-ℤ◌, FitsSigned, codes, Bool, true, false, cond, List, [], ◌∷◌, ◌++◌, All, length, take, drop, get_or, refl, sym, ap, subst, ◌∙◌, arith}
 use Rattle.std.specs.Int.{IsInRange, w64}
 use Rattle.std.specs.List.{slice_split, onto_first, filter}
 use Rattle.std.specs.Str.Parse.{AllDigits, IsNumeral, digits_value, signed_digits_value, starts_with_minus, without_leading_plus, without_leading_sign}
 use Rattle.std.proofs.Math.IntN.{+ℤ_idl}
-use Rattle.std.proofs.Math.Seq.{split_at}
 use Rattle.std.proofs.lemmas.Bool.{ne_eqb, eqb-true}
-use Rattle.std.proofs.lemmas.List.{length-take-le, take-append-drop}
+use Rattle.std.proofs.lemmas.List.{take-append-drop}
 use Rattle.std.proofs.lemmas.List.Elements.{All-cons, All-nil}
 use Rattle.std.proofs.lemmas.List.Splits.{slice_split_at, slice_split_none}
 use Rattle.std.proofs.lemmas.Str.Parse.{digit_at}
 use Rattle.dheap.specs.Script.{IsFirstLine, is_blank, lines_of, words_of}
 use Rattle.dheap.specs.Words.{IsNumber}
 use Rattle.dheap.specs.declared.serve.line.Line.TheVariants.{Push, Pop, Len, Test}
-use Rattle.dheap.proofs.Numerals.{IsReadTo}
 use Rattle.dheap.proofs.Parting.{kept}
-use Rattle.dheap.proofs.Scripts.{rest_whole}
 
 -- a number holds nothing that parts lines or words
 module _ (p : ℕ → Bool) (plus : p 43 ≡ false) (minus : p 45 ≡ false) (digit : (c : ℕ) → IsInRange 48 57 c → p c ≡ false) where
@@ -53,18 +50,6 @@ module _ (word rest : List ℕ) (is : IsNumber word) where
 
   pub only_word : words_of word ≡ word ∷ []
   only_word = ap (filter _) number_word ∙ kept word [] (some word is.0)
-
--- digits up to a line feed
-pub digits_to_line_feed : (xs : List ℕ) (i n b : ℕ) → IsReadTo xs i n → i < length xs → 0 < i → b ≡ get_or xs i 0 → b ≡ 10
-    → (word : List ℕ) × (xs ≡ word ++ 10 ∷ take (length xs - (i + 1)) (drop (i + 1) xs)) × IsNumeral 10 word × (n ≡ digits_value 10 word)
-digits_to_line_feed xs i n b read inside some at feed =
-    let next : suc i ≡ i + 1 = omega arith in (
-      take i xs,
-      split_at xs i 0 inside ∙ ap (λ c. take i xs ++ c ∷ drop (suc i) xs) (sym at ∙ feed)
-          ∙ ap (λ k. take i xs ++ 10 ∷ drop k xs) next ∙ ap (λ l. take i xs ++ 10 ∷ l) (sym (rest_whole xs (i + 1))),
-      (omega (arith, some, length-take-le i xs (omega (arith, inside))), read.digits),
-      read.number,
-    )
 
 -- digits alone have no sign
 pub unsigned : (ds : List ℕ) → IsNumeral 10 ds → (starts_with_minus ds ≡ false) × (without_leading_plus ds ≡ ds)

@@ -54,7 +54,7 @@ impl Line {
 
 /// Reads the first line of a script in one pass, and gives what comes after its line feed, if that line is
 /// a push, a pop, a count or a test and written plainly: with one space before its number, if it has one,
-/// and a line feed at once after it. No answer says nothing of the line.
+/// no plus and at most 19 digits, and a line feed at once after it. No answer says nothing of the line.
 pub fn plain(script: &[u8]) -> Option<(Line, &[u8])>
     ensures { IfSome result (λ read. IsFirstLine script.now read.0 read.1.now) }
 {
@@ -86,8 +86,8 @@ fn plain_number(script: &[u8]) -> Option<(i64, &[u8])>
     Some((0i64.checked_add_unsigned(size)?, rest))
 }
 
-/// The number whose decimal digits, at least one, are all that stands before the first line feed, and what
-/// comes after that, if it is in range.
+/// The number whose decimal digits, at least one and at most 19, are all that stands before the first line
+/// feed, and what comes after that.
 fn plain_natural(script: &[u8]) -> Option<(u64, &[u8])>
     ensures { IfSome result (λ read. (word : List ℕ) × (script.now ≡ word ++ 10 ∷ read.1.now) × IsNumeral 10 word × (read.0 ≡ digits_value 10 word)) }
 {
@@ -98,8 +98,8 @@ fn plain_natural(script: &[u8]) -> Option<(u64, &[u8])>
     }
 }
 
-/// The number that the first bytes write that are digits, at most 19 of them, and how many they are. So
-/// many fit, whichever they are.
+/// The number that the digits write that stand first, at most 19 of them, and how many they are. A number
+/// of so many digits is in range.
 fn leading_digits(script: &[u8]) -> (u64, usize)
     ensures { (result.1 ≤ length script.now) × AllDigits 10 (take result.1 script.now) × (result.0 ≡ digits_value 10 (take result.1 script.now)) }
 {

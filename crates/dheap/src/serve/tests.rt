@@ -6,6 +6,7 @@ use std::process::Abort;
 use std::test::Fail;
 
 mod faults;
+mod numbers;
 
 const USAGE: &str = "usage: dheap ARITY (1 to 8)\n";
 
