@@ -95,7 +95,6 @@ fn answer_all<R: Read, W: Write>(
     };
     let mut script = Vec::new(alloc);
     input.read_to_end(&mut script)?;
-    let script = script.as_slice();
     match arity {
         1 => answer::<W, 1>(alloc, script, output),
         2 => answer::<W, 2>(alloc, script, output),
@@ -124,15 +123,17 @@ fn arity(words: &[String]) -> Option<u8>
 /// Runs the commands of a script on a new heap, and writes the answers.
 fn answer<W: Write, const D: usize>(
     alloc: Global,
-    script: &[u8],
+    script: Vec<u8>,
     output: &mut W,
 ) -> Result<(), Fault>
     ensures usage { IfErr result (λ fault. status_of fault ≢ 2) }
-    ensures bad { IfErr result (λ fault. status_of fault ≡ 1 → (number : ℕ) × (fault ≡ BadLine number) × IsFirstBad (lines_of script.now) number) }
-    ensures printed { OnOk result ((printed : List ℕ) × MayPrint script.now printed × Appends (W.contents output.old) (W.contents output.new) printed) }
+    ensures bad { IfErr result (λ fault. status_of fault ≡ 1 → (number : ℕ) × (fault ≡ BadLine number) × IsFirstBad (lines_of script.items) number) }
+    ensures printed { OnOk result ((printed : List ℕ) × MayPrint script.items printed × Appends (W.contents output.old) (W.contents output.new) printed) }
     ensures silent { IfErr result (λ fault. status_of fault < 3 → Keeps (W.contents output.old) (W.contents output.new)) }
 {
-    let lines = lines(alloc, script)?;
+    let lines = lines(alloc, script.as_slice())?;
+    // Its room is given back before the heap takes some.
+    drop(script);
     let mut heap = DaryHeap::<i64, D>::new(alloc);
     let mut rest = lines.as_slice();
     while !rest.is_empty() {

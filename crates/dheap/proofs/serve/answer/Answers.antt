@@ -1,5 +1,6 @@
 use Rattle.std.proofs.Common.{[], ◌++◌, refl, sym, ap, subst, ◌∙◌, arith, append_assoc, append-nil}
 use Rattle.dheap.specs.Program.{MayPrintFrom}
+use Rattle.dheap.specs.Script.{Say, lines_of}
 use Rattle.dheap.proofs.Joined.{MayPrintFrom-nil, MayPrintFrom-append, MayPrint-whole}
 use Rattle.dheap.proofs.Scripts.{is_something, is_nothing}
 use Rattle.dheap.proofs.Written.{nothing_told, told_more}
@@ -31,4 +32,4 @@ returns-clause-printed g c =
     let (lines, say, kept) = c.in_ok-lines.ensures.said in
     let none = is_nothing c.loop-rest.rest.now c.is_empty.result c.is_empty.ensures c.loop-rest-test.false in
     let whole = sym (append-nil before) ∙ ap (λ l. before ++ l) (sym none) ∙ sym all ∙ c.as_slice-rest.ensures.value ∙ kept in
-    (printed, MayPrint-whole c.args.script.now printed lines before _ say whole may, told)
+    (printed, MayPrint-whole c.args.script.items printed lines before _ (subst (λ xs. Say (lines_of xs) lines) c.as_slice.ensures.value say) whole may, told)
