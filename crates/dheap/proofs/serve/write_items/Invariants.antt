@@ -2,6 +2,6 @@ use Rattle.std.proofs.Common.{◌≡◌, ◌++◌, flat_map, codes, take}
 use Rattle.std.specs.Fmt.{signed_decimal}
 use Rattle.dheap.proofs.serve.write_items.Given as goal
 
--- since the first, those before this place are written
+-- those before this place are written, each with a space after it
 abbrev pub invariant-loop-item : goal.invariant-loop-item
 invariant-loop-item l = l.held.items ≡ l.initial.held.items ++ flat_map (λ x. signed_decimal x ++ codes " ") (take l.item-index l.others)
