@@ -1,13 +1,13 @@
 -- What one command makes of a heap, from the contract of the call that carries it out.
-use Rattle.std.proofs.Common.{◌≡◌, ℕ, ◌<◌, ◌≤◌, ◌↔◌, Bool, List, [], ◌∷◌, ◌++◌, length, IsPermutation, Contains, refl, subst, arith, Option, Some, None, IsSome, IfSome, IfNone, slice_get, sym, inl, inr, true, false, Bor, MatchOption}
-use Rattle.std.specs.Option.{IsSomeAnd, option_copied}
+use Rattle.std.proofs.Common.{◌≡◌, ℕ, ◌<◌, ◌≤◌, ◌↔◌, Bool, List, [], ◌∷◌, ◌++◌, length, IsPermutation, Contains, refl, subst, arith, Option, Some, None, IsSome, IfSome, IfNone, slice_get, sym, inl, inr, true, false, Bor}
 use Rattle.std.specs.Cmp.{IsTotalOrder}
-use Rattle.std.specs.Fn.{Mut, Called, CalledAt}
+use Rattle.std.specs.Fn.{Mut, Called, CalledAt, TakesAt}
 use Rattle.std.proofs.lemmas.Bool.{cases_lt}
 use Rattle.std.proofs.lemmas.List.Elements.{Contains-append_left, Contains-append_right}
+use Rattle.std.proofs.lemmas.Option.{slice_get_within, get_or_from_slice_get}
 use Rattle.std.proofs.lemmas.List.Sorted.{IsPermutation-sym, IsPermutation-to_front, IsPermutation-trans, Contains-permutation, length_permutation}
 use Rattle.std.specs.declared.cmp.Ordering.{Ordering}
-use Rattle.dary_heap.specs.Asking.{items_in}
+use Rattle.dary_heap.specs.Asking.{IsCallableOn, items_in}
 use Rattle.dary_heap.specs.Bounds.{RisesWithin, push_bound, pop_bound}
 use Rattle.dary_heap.specs.Contents.{Contents}
 use Rattle.dary_heap.specs.HeapOrder.{IsHeapOrdered}
@@ -15,6 +15,7 @@ use Rattle.dary_heap.specs.Machine.{Command, Reply, Push, Pop, Ask, Pushed, Push
 use Rattle.dary_heap.specs.Run.{IsServed, Serves, room, sure_after}
 use Rattle.dary_heap.specs.State.{front, front_with}
 use Rattle.dary_heap.proofs.Fronts.{alone, ordered_state, same_state}
+use Rattle.dary_heap.proofs.Order.{read}
 
 -- a list without items
 pub empty : {X : Type 0} (xs : List X) → length xs ≤ 0 → xs ≡ []
@@ -84,35 +85,36 @@ module _ {X P : Type 0} {cmp : X → X → Ordering} {answers : P → X → Bool
     among = rest old.items new.items m bag;
   }
 
-  pub asked : (heap : Contents X) (p : P) (m : X) (answer : Bool) (after : P) → answers p m answer after → front heap.items ≡ Some m → IsHeapOrdered cmp D heap.items → Serves cmp answers D heap (Ask p) (Asked (Some answer)) heap
-  asked heap p m answer after told first ordered = record {
-    step = ((m, first, (after, told)), same_state _ _ refl);
-    charged = stays _ _;
-    served = tt;
-    sure = omega arith;
-    ordered = ordered;
-    among = λ y in'. Contains-append_left heap.items [] y in';
-  }
+  answered : (heap : Contents X) (p : P) (m : X) (answer : Bool) (after : P) → answers p m answer after → front heap.items ≡ Some m → IsHeapOrdered cmp D heap.items → Serves cmp answers D heap (Ask p) (Asked (Some answer)) heap
+  answered heap p m answer after told first ordered = kept heap heap (Ask p) (Asked (Some answer)) refl refl ordered ((m, first, (after, told)), same_state _ _ refl) tt (omega arith)
 
--- a question that is put to a predicate which is called once at most
-module _ {X P : Type 0} {cmp : X → X → Ordering} {D : ℕ} (calls : Mut P (Bor X × Unit {0}) Bool) (once : (p : P) (a : Bor X × Unit {0}) (answer : Bool) → calls.post p a answer ↔ ((after : P) × Called calls p a answer after)) where
-  pub asks : (heap : Contents X) (p : P) (seen : Option (Bor X)) (answer : Option Bool) → (IsSome seen ↔ (0 < length heap.items)) → option_copied seen ≡ slice_get heap.items 0 → IsHeapOrdered cmp D heap.items → MatchOption seen (answer ≡ None) (λ item. IsSomeAnd answer (calls.post p (item, tt))) → Serves cmp (CalledAt calls) D heap (Ask p) (Asked answer) heap
-  asks heap p None None variant first ordered told =
-      let none : heap.items ≡ [] = elim (cases_lt 0 (length heap.items)) [ inl some ↦ let given : false ≡ true = variant.1 some in cc | inr few ↦ empty heap.items few ] in
-      record {
-        step = (none, none);
-        charged = stays _ _;
-        served = tt;
-        sure = omega arith;
-        ordered = ordered;
-        among = λ y in'. Contains-append_left heap.items [] y in';
-      }
-  asks heap p None (Some answer) variant first ordered told = cc
-  asks heap p (Some item) None variant first ordered told = absurd told
-  asks heap p (Some item) (Some answer) variant first ordered told =
-      let called = (once p (item, tt) answer).0 told in
-      asked heap p item.now answer called.0 (record { shown = item; shows = refl; called = called.1 }) (sym first) ordered
+  unasked : (heap : Contents X) (p : P) → heap.items ≡ [] → IsHeapOrdered cmp D heap.items → Serves cmp answers D heap (Ask p) (Asked None) heap
+  unasked heap p none ordered = kept heap heap (Ask p) (Asked None) refl refl ordered (none, none) tt (omega arith)
 
 -- the one item of a list is among those that have it
-pub only : {X : Type 0} (items : List X) (x : X) → Contains items x → (y : X) → Contains (x ∷ []) y → Contains items y
+only : {X : Type 0} (items : List X) (x : X) → Contains items x → (y : X) → Contains (x ∷ []) y → Contains items y
 only items x in' y here = subst (Contains items) (alone x y here) in'
+
+-- a predicate that is called once at most, on the front
+module _ {X P : Type 0} (calls : Mut P (Bor X × Unit {0}) Bool) where
+  -- it may be called there, where it may be called on each item
+  pub callable_on_front : (items : List X) (p : P) → IsCallableOn calls items p → (f : X) → front items ≡ Some f → TakesAt calls p f
+  callable_on_front items p h f is = (h.in_turn (f ∷ []) (only items f (0, slice_get_within items 0 f is, get_or_from_slice_get items 0 f f is))).0
+
+  -- p was asked about a reference to item
+  abbrev pub Told : P → X → Bool → Type 0
+  Told p item answer = (shown : Bor X) × calls.post p (shown, tt) answer × (shown.now ≡ item)
+
+  module _ (once : (p : P) (a : Bor X × Unit {0}) (answer : Bool) → calls.post p a answer ↔ ((after : P) × Called calls p a answer after)) where
+    pub told : (p : P) (item : X) (answer : Bool) → Told p item answer → (after : P) × CalledAt calls p item answer after
+    told p item answer h = let called = (once p (h.0, tt) answer).0 h.1 in (called.0, record { shown = h.0; shows = h.2; called = called.1 })
+
+    pub asks : {cmp : X → X → Ordering} {D : ℕ} (heap : Contents X) (p : P) (answer : Option Bool) → (heap.items ≡ [] → answer ≡ None) → ((item : X) → slice_get heap.items 0 ≡ Some item → (given : Bool) × Told p item given × (answer ≡ Some given)) → IsHeapOrdered cmp D heap.items → Serves cmp (CalledAt calls) D heap (Ask p) (Asked answer) heap
+    asks heap p answer none asked ordered = elim (cases_lt 0 (length heap.items)) [
+      | inl some ↦
+          let first = read heap.items 0 some in
+          let given = asked first.0 first.1 in
+          let called = told p first.0 given.0 given.1 in
+          rw given.2 (answered heap p first.0 given.0 called.0 called.1 first.1 ordered)
+      | inr few ↦ let gone = empty heap.items few in rw (none gone) (unasked heap p gone ordered)
+    ]

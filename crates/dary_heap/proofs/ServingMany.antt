@@ -25,7 +25,7 @@ use Rattle.dary_heap.specs.State.{IsJoined, front}
 use Rattle.dary_heap.proofs.Filtering.{few_picked}
 use Rattle.dary_heap.proofs.Fronts.{ordered_state, same_state}
 use Rattle.dary_heap.proofs.Order.{IsAtMost-none, read}
-use Rattle.dary_heap.proofs.Serving.{empty, rest, stays}
+use Rattle.dary_heap.proofs.Serving.{Told, empty, rest, stays, told}
 
 -- taking in fewer items costs no more
 fewer : (D n j k : ℕ) (b c : Bool) → (j == 0) ≡ b → (k == 0) ≡ c → j ≤ k → (if b then 0 else max (build_bound D n) (j * depth D (n - 1))) ≤ (if c then 0 else max (build_bound D n) (k * depth D (n - 1)))
@@ -141,26 +141,19 @@ taken_front s (x ∷ xs) t y = y.1.0 ∙ ap (λ ys. x ∷ ys) (taken_front y.0 x
 
 -- a pop that a predicate decides, which is called once at most
 module _ {X P : Type 0} (calls : Mut P (Bor X × Unit {0}) Bool) (once : (p : P) (a : Bor X × Unit {0}) (answer : Bool) → calls.post p a answer ↔ ((after : P) × Called calls p a answer after)) where
-  -- p was asked about a reference to item
-  abbrev Told : P → X → Bool → Type 0
-  Told p item answer = (shown : Bor X) × calls.post p (shown, tt) answer × (shown.now ≡ item)
-
-  told : (p : P) (item : X) (answer : Bool) → Told p item answer → (after : P) × CalledAt calls p item answer after
-  told p item answer h = let called = (once p (h.0, tt) answer).0 h.1 in (called.0, record { shown = h.0; shows = h.2; called = called.1 })
-
   given : (m item : X) (answer : Bool) → Some m ≡ (if answer then Some item else None) → Some m ≡ Some item
   given m item true e = e
   given m item false e = cc
 
-  told_yes : (p : P) (m item : X) (answer : Bool) → Told p item answer → Some m ≡ (if answer then Some item else None) → (after : P) × CalledAt calls p m true after
-  told_yes p m item true h e = let same : item ≡ m = (cc) in subst (λ x. (after : P) × CalledAt calls p x true after) same (told p item true h)
+  told_yes : (p : P) (m item : X) (answer : Bool) → Told calls p item answer → Some m ≡ (if answer then Some item else None) → (after : P) × CalledAt calls p m true after
+  told_yes p m item true h e = let same : item ≡ m = (cc) in subst (λ x. (after : P) × CalledAt calls p x true after) same (told calls once p item true h)
   told_yes p m item false h e = cc
 
-  told_no : (p : P) (item : X) (answer : Bool) → Told p item answer → None ≡ (if answer then Some item else None) → (after : P) × CalledAt calls p item false after
+  told_no : (p : P) (item : X) (answer : Bool) → Told calls p item answer → None ≡ (if answer then Some item else None) → (after : P) × CalledAt calls p item false after
   told_no p item true h e = cc
-  told_no p item false h e = told p item false h
+  told_no p item false h e = told calls once p item false h
 
-  pub pops_where : {cmp : X → X → Ordering} {D : ℕ} → IsTotalOrder cmp → (old new : Contents X) (p : P) (r : Option X) → ((item : X) → slice_get old.items 0 ≡ Some item → (answer : Bool) × Told p item answer × (r ≡ (if answer then Some item else None))) → IfSome r (IsGreatest cmp old.items) → IfSome r (λ m. IsPermutation old.items (m ∷ new.items)) → IsHeapOrdered cmp D new.items → RisesWithin old.comparisons new.comparisons (pop_bound D (length old.items)) → new.capacity ≡ old.capacity → IfNone r (new ≡ old) → Serves cmp (CalledAt calls) D old (PopIf p) (Popped r) new
+  pub pops_where : {cmp : X → X → Ordering} {D : ℕ} → IsTotalOrder cmp → (old new : Contents X) (p : P) (r : Option X) → ((item : X) → slice_get old.items 0 ≡ Some item → (answer : Bool) × Told calls p item answer × (r ≡ (if answer then Some item else None))) → IfSome r (IsGreatest cmp old.items) → IfSome r (λ m. IsPermutation old.items (m ∷ new.items)) → IsHeapOrdered cmp D new.items → RisesWithin old.comparisons new.comparisons (pop_bound D (length old.items)) → new.capacity ≡ old.capacity → IfNone r (new ≡ old) → Serves cmp (CalledAt calls) D old (PopIf p) (Popped r) new
   pops_where {cmp = cmp} {D = D} total old new p None asked greatest bag ordered charged same unchanged =
       let still = subst (λ (it : Contents X). IsHeapOrdered cmp D it.items) unchanged ordered in
       rw unchanged record {

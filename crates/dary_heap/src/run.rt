@@ -3,8 +3,8 @@
 //! [`run`] carries a list of commands out on a heap. Its contract says that the replies and the items
 //! are a run of the bag machine of `specs/Machine.antt`, which knows no tree and no memory. It has a bag
 //! and its front, an item that no other exceeds: a question is about the front, and a pop gives it.
-ghost use Rattle.std.specs.Prelude.{◌≡◌, ◌++◌, ◌∷◌, [], length, All, IfOk, IfErr, IsOk};
-ghost use Rattle.std.specs.Fn.{CalledAt};
+ghost use Rattle.std.specs.Prelude.{◌≡◌, ◌++◌, ◌∷◌, [], length, slice_get, All, Bool, Some, None, IfOk, IfErr, IsOk};
+ghost use Rattle.std.specs.Fn.{CalledAt, FnOnceTakesAt, FnOnceReturnsAt};
 ghost use Rattle.dary_heap.specs.Asking.{IsCallableOn, items_in, predicates_in};
 ghost use Rattle.dary_heap.specs.HeapOrder.{IsHeapOrdered};
 ghost use Rattle.dary_heap.specs.Machine as machine;
@@ -178,8 +178,8 @@ fn serve<T: Ord + Drop, const D: usize, P: FnMut(&T) -> bool>(
     match command {
         Command::Push(item) => push::<T, D, P>(heap, item),
         Command::Pop => pop::<T, D, P>(heap),
-        Command::PopIf(predicate) => pop_if(heap, predicate),
-        Command::Ask(predicate) => ask(heap, predicate),
+        Command::PopIf(predicate) => Reply::Popped(heap.pop_if(predicate)),
+        Command::Ask(predicate) => Reply::Asked(ask(heap, predicate)),
         Command::Len => len::<T, D, P>(heap),
         Command::Retain(predicate) => retain(heap, predicate),
         Command::Extend(items) => extend::<T, D, P>(heap, items),
@@ -211,31 +211,23 @@ fn pop<T: Ord, const D: usize, P: FnMut(&T) -> bool>(heap: &mut DaryHeap<T, D>) 
     Reply::Popped(heap.pop())
 }
 
-fn ask<T: Ord, const D: usize, P: FnMut(&T) -> bool>(
+/// What the predicate answers about the front, if there is one. As an `FnOnce` it is asked once at most.
+fn ask<T: Ord, const D: usize, F: FnOnce(&T) -> bool>(
     heap: &DaryHeap<T, D>,
-    predicate: P,
-) -> Reply<T, D>
-    requires { IsCallableOn P.FnMut heap.now.items predicate }
-    ensures { Serves T.cmp (CalledAt P.FnMut) D heap.now (machine.Ask predicate) (read.reply result) heap.now }
+    predicate: F,
+) -> Option<bool>
+    requires { (item : T) → slice_get heap.now.items 0 ≡ Some item → FnOnceTakesAt F.FnOnce predicate item }
+    ensures empty { heap.now.items ≡ [] → result ≡ None }
+    ensures asked { (item : T) → slice_get heap.now.items 0 ≡ Some item → (answer : Bool) × FnOnceReturnsAt F.FnOnce predicate item answer × (result ≡ Some answer) }
+    ensures ordered { IsHeapOrdered T.cmp D heap.now.items }
 {
-    // `map` takes the predicate by value, as one that is called once at most.
-    Reply::Asked(heap.peek().map(predicate))
+    Some(predicate(heap.peek()?))
 }
 
 fn len<T: Ord, const D: usize, P: FnMut(&T) -> bool>(heap: &DaryHeap<T, D>) -> Reply<T, D>
     ensures { Serves T.cmp (CalledAt P.FnMut) D heap.now machine.Len (read.reply result) heap.now }
 {
     Reply::Len(heap.as_slice().len())
-}
-
-fn pop_if<T: Ord, const D: usize, P: FnMut(&T) -> bool>(
-    heap: &mut DaryHeap<T, D>,
-    predicate: P,
-) -> Reply<T, D>
-    requires { IsCallableOn P.FnMut heap.old.items predicate }
-    ensures { Serves T.cmp (CalledAt P.FnMut) D heap.old (machine.PopIf predicate) (read.reply result) heap.new }
-{
-    Reply::Popped(heap.pop_if(predicate))
 }
 
 fn retain<T: Ord + Drop, const D: usize, P: FnMut(&T) -> bool>(

@@ -1,13 +1,9 @@
-use Rattle.std.proofs.Common.{[], ◌∷◌, refl}
-use Rattle.dary_heap.proofs.Serving.{asks, only}
+use Rattle.std.proofs.Common.{◌≡◌, Some, refl, ◌∙◌}
 use Rattle.dary_heap.proofs.run.ask.Goals as goal
 
-pub map-requires : goal.map-requires
-map-requires g c = λ item is.
-    let shown = rw is at c.peek.ensures.greatest in
-    (c.requires.in_turn (item.now ∷ []) (only c.args.heap.now.items item.now shown.occurs)).0 item refl
-
-pub returns : goal.returns
-returns g c =
-    let e = c.peek.ensures in
-    asks g.P.FnMut g.met.P.FnMut.1.post_iff c.args.heap.now c.args.predicate c.peek.result c.map.result e.variant e.first e.ordered c.map.ensures.cases
+pub returns-clause-asked : goal.returns-clause-asked
+returns-clause-asked g c = λ item is.
+    let shown = c.in_ok-peek.field-0 in
+    let first : Some shown.now ≡ Some item = c.in_ok-peek.ensures.first ∙ is in
+    let same : shown.now ≡ item = (cc) in
+    (c.predicate.result, (shown, c.predicate.ensures, same), refl)
