@@ -4,6 +4,7 @@ pub mod Bag
 pub mod Bounds
 pub mod Building
 pub mod Contents
+pub mod Drain
 pub mod DrainSorted
 pub mod Extending
 pub mod Filtering

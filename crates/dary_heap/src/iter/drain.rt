@@ -1,5 +1,6 @@
 //! The iterator of a heap that it leaves empty.
-ghost use Rattle.std.specs.Prelude.{◌≡◌, ◌^◌, ◌<◌, [], length, IfSome, Some};
+ghost use Rattle.std.specs.Prelude.{◌≡◌, ◌^◌, ◌<◌, length, IfSome, Some};
+ghost use Rattle.std.specs.Borrow.{sem};
 ghost use Rattle.std.specs.Iterator.{YieldsFirst, YieldsLast, UpTo, item_count};
 ghost use Rattle.std.specs.Iterator.Runs.{YieldsInOrder, YieldsInReverse};
 ghost use Rattle.std.specs.Iterator.SizeHint.{IsWithinCount};
@@ -7,27 +8,22 @@ ghost use Rattle.std.specs.Iterator.SizeHint.{IsWithinCount};
 use super::IntoIter;
 use crate::heap::DaryHeap;
 use std::iter::FusedIterator;
-use std::marker::{Model, PhantomData};
 use std::{fmt, mem};
 
 /// The items that were taken out of a heap, in the order in which they were stored there.
 ///
-/// A clause sees it as the list of the items that are left.
+/// A clause sees it by the words of `specs/Drain.antt`: as `drain_rest` the list of the items that are
+/// left.
 #[derive(Drop)]
 pub struct Drain<'a, T> {
     rest: IntoIter<T>,
-    mark: PhantomData<&'a mut ()>,
-}
-
-impl<'a, T> Model for Drain<'a, T> {
-    ghost use Rattle.std.specs.Prelude.{List};
-
-    ghost Value = { List T };
-
-    ghost view = { λ it. it.rest };
+    // The items that the heap has left, which are none. The loan keeps the heap borrowed.
+    left: &'a mut [T],
 }
 
 impl<T: Ord, const D: usize> DaryHeap<T, D> {
+    ghost use Rattle.dary_heap.specs.Drain.{drain_rest, drain_lender, leaves_emptied};
+
     /// Takes all items out, in the order in which they are stored. It compares nothing.
     ///
     /// The heap is empty from the call on, also where the iterator is dropped early or forgotten. It
@@ -38,45 +34,49 @@ impl<T: Ord, const D: usize> DaryHeap<T, D> {
     /// assert_eq!(rt; heap.drain().next(), Some(3));
     /// assert!(rt; heap.is_empty());
     /// ```
-    pub fn drain<'a>(&mut self) -> Drain<'a, T>
-        ensures items { result ≡ self.old.items }
-        ensures fits { length result < 2 ^ 64 }
-        ensures runs { YieldsInOrder (YieldsFirst {A = T} (λ rest. rest)) (λ rest. rest) }
-        ensures runs_back { YieldsInReverse (YieldsLast {A = T} (λ rest. rest)) (λ rest. rest) }
-        ensures emptied { self.new.items ≡ [] }
-        ensures uncounted { self.new.comparisons ≡ self.old.comparisons }
+    pub fn drain(&mut self) -> Drain<'_, T>
+        // Once the iterator is gone the heap is empty and has compared nothing.
+        ensures* emptied { sem 𝓛 (leaves_emptied T.row D.row T.Ord.own T.PartialEq T.PartialOrd.own self.entry (drain_lender result)) }
+        ensures items { drain_rest result ≡ self.old.items }
+        ensures fits { length (drain_rest result) < 2 ^ 64 }
+        ensures runs { YieldsInOrder (YieldsFirst {A = T} drain_rest) drain_rest }
+        ensures runs_back { YieldsInReverse (YieldsLast {A = T} drain_rest) drain_rest }
     {
         let alloc = *self.items.allocator();
         let items = mem::replace(&mut self.items, Vec::new(alloc));
         Drain {
             rest: IntoIter::of(items),
-            mark: PhantomData,
+            left: self.items.as_mut_slice(),
         }
     }
 }
 
 impl<T: Drop> Iterator for Drain<'_, T> {
+    ghost use Rattle.dary_heap.specs.Drain.{drain_rest};
+
     type Item = T;
 
-    ghost next_gives = { YieldsFirst (λ rest. rest) };
+    ghost next_gives = { YieldsFirst drain_rest };
 
-    ghost remaining = { item_count (λ rest. rest) };
+    ghost remaining = { item_count drain_rest };
 
     fn next(&mut self) -> Option<T> {
         self.rest.next()
     }
 
     fn size_hint(&self) -> (usize, Option<usize>)
-        ensures lower { IsWithinCount result.0 (item_count (λ rest. rest) self.now) }
-        ensures upper { IfSome result.1 (UpTo (item_count (λ rest. rest) self.now)) }
-        ensures exact { (result.0 ≡ length self.now) × (result.1 ≡ Some (length self.now)) }
+        ensures lower { IsWithinCount result.0 (item_count drain_rest self.now) }
+        ensures upper { IfSome result.1 (UpTo (item_count drain_rest self.now)) }
+        ensures exact { (result.0 ≡ length (drain_rest self.now)) × (result.1 ≡ Some (length (drain_rest self.now))) }
     {
         self.rest.size_hint()
     }
 }
 
 impl<T: Drop> DoubleEndedIterator for Drain<'_, T> {
-    ghost next_back_gives = { YieldsLast (λ rest. rest) };
+    ghost use Rattle.dary_heap.specs.Drain.{drain_rest};
+
+    ghost next_back_gives = { YieldsLast drain_rest };
 
     fn next_back(&mut self) -> Option<T> {
         self.rest.next_back()

@@ -1,4 +1,5 @@
-use Rattle.std.proofs.Common.{◌≡◌, ◌++◌, ◌∷◌, [], length, take, min, sym, ap, ◌∙◌, arith, append_assoc, length-append}
+use Rattle.std.proofs.Common.{◌≡◌, ◌++◌, ◌∷◌, [], length, take, min, refl, sym, ap, ◌∙◌, arith, append_assoc, length-append}
+use Rattle.dary_heap.specs.Drain.{drain_rest, emptied}
 use Rattle.dary_heap.proofs.ServingDrains.{drain_refused, drained, first_given, given_first}
 use Rattle.dary_heap.proofs.Written.{written_back}
 use Rattle.dary_heap.proofs.run.drain.Goals as goal
@@ -10,7 +11,7 @@ returns-in_default g c =
 
 pub loop-init : goal.loop-init
 loop-init g c = record {
-  parts = sym (ap (λ xs. xs ++ c.drain-rest.result) c.in-Ok.ensures.items);
+  parts = sym (ap (λ xs. xs ++ drain_rest c.drain-rest.result) c.in-Ok.ensures.items);
   long = omega (arith, c.in-Ok.ensures.len);
   within = omega arith;
   space = omega (arith, c.in-Ok.ensures.capacity);
@@ -19,7 +20,7 @@ loop-init g c = record {
 pub unwrap-requires : goal.unwrap-requires
 unwrap-requires g c =
     let before = c.loop.invariant in
-    first_given c.next.result c.loop.rest c.next.new.self c.next.ensures.steps (omega (arith, c.loop-test.true, c.min-count.ensures, ap length c.as_slice.ensures.items, ap length c.drain-rest.ensures.items, ap length before.parts, length-append c.loop.taken.items c.loop.rest, before.long))
+    first_given c.next.result (drain_rest c.loop.rest) (drain_rest c.next.new.self) c.next.ensures.steps (omega (arith, c.loop-test.true, c.min-count.ensures, ap length c.as_slice.ensures.items, ap length c.drain-rest.ensures.items, ap length before.parts, length-append c.loop.taken.items (drain_rest c.loop.rest), before.long))
 
 pub push_reserved-requires : goal.push_reserved-requires
 push_reserved-requires g c = omega (arith, c.loop-test.true, c.loop.invariant.long, c.loop.invariant.space)
@@ -28,9 +29,9 @@ pub loop-preserved : goal.loop-preserved
 loop-preserved g c =
     let before = c.loop.invariant in
     let x = c.unwrap.result in
-    let was = given_first c.next.result x c.loop.rest c.next.new.self c.unwrap.ensures c.next.ensures.steps in
+    let was = given_first c.next.result x (drain_rest c.loop.rest) (drain_rest c.next.new.self) c.unwrap.ensures c.next.ensures.steps in
     record {
-      parts = before.parts ∙ ap (λ xs. c.loop.taken.items ++ xs) was ∙ sym (append_assoc c.loop.taken.items (x ∷ []) c.next.new.self) ∙ sym (ap (λ xs. xs ++ c.next.new.self) c.push_reserved.ensures.items);
+      parts = before.parts ∙ ap (λ xs. c.loop.taken.items ++ xs) was ∙ sym (append_assoc c.loop.taken.items (x ∷ []) (drain_rest c.next.new.self)) ∙ sym (ap (λ xs. xs ++ (drain_rest c.next.new.self)) c.push_reserved.ensures.items);
       long = omega arith;
       within = omega arith;
       space = omega arith;
@@ -41,4 +42,4 @@ returns g c =
     let before = c.loop.invariant in
     let m = min c.args.count (length c.args.heap.now.items) in
     let long : length c.loop.taken.items ≡ m = omega (arith, c.min-count.ensures, ap length c.as_slice.ensures.items, before.long, before.within, c.loop-test.false) in
-    drained c.args.heap.now c.drain-rest.new.self c.args.count c.loop.taken.items (sym (ap (λ xs. take m xs) (sym c.drain-rest.ensures.items ∙ before.parts) ∙ written_back m c.loop.taken.items c.loop.rest long)) c.drain-rest.ensures.emptied c.drain-rest.ensures.uncounted
+    drained c.args.heap.now (emptied c.args.heap.now) c.args.count c.loop.taken.items (sym (ap (λ xs. take m xs) (sym c.drain-rest.ensures.items ∙ before.parts) ∙ written_back m c.loop.taken.items (drain_rest c.loop.rest) long)) refl refl

@@ -1,9 +1,10 @@
 use Rattle.std.proofs.Common.{◌≡◌, ◌++◌, ◌≤◌, vec_len, vec_capacity}
+use Rattle.dary_heap.specs.Drain.{drain_rest}
 use Rattle.dary_heap.proofs.run.drain.Given as goal
 
 abbrev pub invariant-loop : goal.invariant-loop
 invariant-loop g l = record {
-  parts : l.initial.rest ≡ l.taken.items ++ l.rest;
+  parts : drain_rest l.initial.rest ≡ l.taken.items ++ drain_rest l.rest;
   long : vec_len l.taken ≡ l.counter;
   within : l.counter ≤ l.count;
   space : l.count ≤ vec_capacity l.taken;

@@ -1,8 +1,28 @@
+use Rattle.std.proofs.Common.{Vec, vec_capacity, vec_len, refl, ap, ◌∙◌}
+use Rattle.std.specs.declared.alloc.Global.{Global}
+use Rattle.dary_heap.specs.Contents.{Contents}
+use Rattle.dary_heap.specs.Drain.{drain_rest}
 use Rattle.dary_heap.proofs.Iterating.{runs, runs_back}
+use Rattle.dary_heap.proofs.ServingMany.{none_ordered}
+use Rattle.dary_heap.proofs.Written.{none_written, same_contents}
 use Rattle.dary_heap.proofs.heap.DaryHeap.drain.Goals as goal
 
-pub returns-clause-runs : goal.returns-clause-runs
-returns-clause-runs g c = runs
+-- what the heap is left has no place that the loan could write to
+pub returns : goal.returns
+returns g c =
+    let was = c.self.view_is in
+    let left = c.replace-items.ensures.after in
+    let len = ap (λ (v : Vec g.row.T.Denot Global). vec_len v) left ∙ c.new.ensures.len in
+    let room = ap (λ (v : Vec g.row.T.Denot Global). vec_capacity v) left ∙ c.new.ensures.capacity in (
+      (refl, λ w. same_contents _ _ (none_written _ _ len) room (ap (λ (it : Contents g.row.T.Denot). it.comparisons) was)),
+      record {
+        emptied = tt;
+        items = c.of.ensures.items ∙ ap (λ (v : Vec g.row.T.Denot Global). v.items) c.replace-items.ensures.value ∙ ap (λ (it : Contents g.row.T.Denot). it.items) was;
+        fits = c.of.ensures.fits;
+        runs = runs drain_rest;
+        runs_back = runs_back drain_rest;
+      },
+    )
 
-pub returns-clause-runs_back : goal.returns-clause-runs_back
-returns-clause-runs_back g c = runs_back
+pub invariant_of-self-lent : goal.invariant_of-self-lent
+invariant_of-self-lent g c = λ w. none_ordered _ (none_written _ _ (ap (λ (v : Vec g.row.T.Denot Global). vec_len v) c.replace-items.ensures.after ∙ c.new.ensures.len))
