@@ -9,8 +9,8 @@ use std::marker::Model;
 
 /// A number that only clauses read. It takes no bytes.
 #[derive(Drop)]
-pub struct Count {
-    pub ghost value: { ℕ },
+struct Count {
+    ghost value: { ℕ },
 }
 
 impl Model for Count {
@@ -23,13 +23,13 @@ unsafe impl Send for Count {}
 unsafe impl Sync for Count {}
 
 impl Count {
-    pub(crate) fn new() -> Count
+    fn new() -> Count
         ensures { result.value ≡ 0 }
     {
         Count {}
     }
 
-    pub(crate) fn add_one(&mut self)
+    fn add_one(&mut self)
         ensures { self.new.value ≡ self.old.value + 1 }
     {}
 }
