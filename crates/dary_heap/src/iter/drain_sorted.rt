@@ -4,6 +4,7 @@ ghost use Rattle.std.specs.Iterator.{UpTo, item_count};
 ghost use Rattle.std.specs.Iterator.SizeHint.{IsWithinCount};
 ghost use Rattle.dary_heap.specs.Bounds.{RisesWithin, pops_bound};
 ghost use Rattle.dary_heap.specs.HeapOrder.{IsHeapOrdered};
+ghost use Rattle.dary_heap.specs.Popping.{GivesDescending};
 
 use crate::heap::DaryHeap;
 use std::fmt;
@@ -39,7 +40,7 @@ fn pop_all<T: Ord + Drop, const D: usize>(heap: &mut DaryHeap<T, D>)
 }
 
 impl<T: Ord, const D: usize> DaryHeap<T, D> {
-    ghost use Rattle.dary_heap.specs.DrainSorted.{drained_heap, drained_lender, KeepsHeapAlong};
+    ghost use Rattle.dary_heap.specs.DrainSorted.{drained_heap, drained_lender, DrainsSorted, KeepsHeapAlong};
 
     /// Takes the items out in descending order. Equal items come in the order in which pops give them.
     ///
@@ -60,6 +61,10 @@ impl<T: Ord, const D: usize> DaryHeap<T, D> {
         ensures fits { length self.old.items < 2 ^ 64 }
         ensures same_reference { drained_lender result ≡ self.entry.ghost_name }
         ensures stays { KeepsHeapAlong T.cmp result }
+
+        // Calls of `next` give a greatest part of the items in descending order, each once, and up to
+        // `None` all of them.
+        ensures descending { GivesDescending T.cmp (DrainsSorted T.cmp) (λ it. (drained_heap it).items) result }
     {
         // It ensures that the heap is ordered.
         let _ = self.as_slice();

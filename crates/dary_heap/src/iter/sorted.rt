@@ -5,7 +5,7 @@ ghost use Rattle.std.specs.Iterator.SizeHint.{IsWithinCount};
 ghost use Rattle.dary_heap.specs.Bounds.{RisesWithin, build_bound};
 ghost use Rattle.dary_heap.specs.Contents.{Contents};
 ghost use Rattle.dary_heap.specs.HeapOrder.{IsHeapOrdered};
-ghost use Rattle.dary_heap.specs.Popping.{IsPop};
+ghost use Rattle.dary_heap.specs.Popping.{IsPop, GivesDescending};
 
 use crate::heap::DaryHeap;
 use std::alloc::AllocError;
@@ -44,6 +44,10 @@ impl<T: Ord, const D: usize> DaryHeap<T, D> {
         ensures heap { result ≡ self }
         ensures ordered { IsHeapOrdered T.cmp D self.items }
         ensures fits { length self.items < 2 ^ 64 }
+
+        // Calls of `next` give a greatest part of the items in descending order, each once, and up to
+        // `None` all of them.
+        ensures descending { GivesDescending T.cmp (IsPop T.cmp D) (λ heap. heap.items) result }
     {
         // It ensures that the heap is ordered.
         let _ = self.as_slice();
