@@ -3,3 +3,4 @@ pub mod Merging
 pub mod Running
 pub mod Scheduling
 pub mod Taking
+pub mod Topping
