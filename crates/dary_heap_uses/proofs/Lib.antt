@@ -1,6 +1,6 @@
+pub mod FirstFew
 pub mod Keeping
 pub mod Merging
 pub mod Running
 pub mod Scheduling
 pub mod Taking
-pub mod Topping

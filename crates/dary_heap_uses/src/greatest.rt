@@ -1,11 +1,10 @@
-//! The `k` greatest, of a stream and of a heap.
+//! The `k` greatest of a stream.
 //!
-//! Of a stream a heap of `Reverse` has the least of the items that are kept at its top. So a greater item takes its
+//! A heap of `Reverse` has the least of the items that are kept at its top. So a greater item takes its
 //! place through a loan, in one way down, where a push and a pop would take a way up and a way down.
 ghost use Rattle.std.specs.Prelude.{◌≡◌, ◌+◌, ◌*◌, ◌≤◌, [], ◌∷◌, ◌++◌, List, length, IfOk, OnOk};
 ghost use Rattle.std.specs.Iterator.{Drains, IsFinite};
 ghost use Rattle.dary_heap.specs.Bounds.{RisesWithin, push_bound, pop_bound};
-ghost use Rattle.dary_heap.specs.Popping.{IsDescending};
 ghost use Rattle.dary_heap_uses.specs.Keeping.{KeepsGreatest, values};
 
 use dary_heap::DaryHeap;
@@ -43,26 +42,6 @@ pub fn greatest<T: Ord + Drop, I: IntoIterator<Item = T>, const D: usize>(
         offer(&mut kept, k, item)?;
     }
     Ok(kept)
-}
-
-/// The `k` greatest items of a heap in descending order, or all of them where they are fewer.
-///
-/// No item that is left out is strictly greater than one of them. Of equal items any may be left out. It
-/// is refused only for want of memory, and then all items are given up.
-///
-/// ```
-/// let heap = DaryHeap::<_, 3>::from(vec![in alloc; 3, 8, 1, 5]?);
-/// assert_eq!(rt; greatest_of_heap(alloc, heap, 2)?.as_slice(), [8, 5].as_slice());
-/// ```
-pub fn greatest_of_heap<T: Ord + Drop, const D: usize>(
-    alloc: Global,
-    heap: DaryHeap<T, D>,
-    k: usize,
-) -> Result<Vec<T>, AllocError>
-    ensures greatest { IfOk result (λ items. KeepsGreatest T.cmp k heap.items items.items) }
-    ensures descending { IfOk result (λ items. IsDescending T.cmp items.items) }
-{
-    heap.into_iter_sorted().take(k).collect(alloc)
 }
 
 /// Takes an item in while fewer than `k` are kept, and later in the place of the least, where that is

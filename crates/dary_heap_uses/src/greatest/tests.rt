@@ -36,18 +36,3 @@ fn the_last_words_stay(rt: HostRuntime) -> Result<(), Fail> {
     );
     Ok(())
 }
-
-#[test]
-fn the_greatest_of_a_heap_come_in_descending_order(rt: HostRuntime) -> Result<(), Fail> {
-    let cases: [(usize, &[u32]); 4] = [
-        (0, &[]),
-        (1, &[9]),
-        (3, &[9, 8, 8]),
-        (9, &[9, 8, 8, 7, 5, 3, 1]),
-    ];
-    for (k, wanted) in cases {
-        let heap = DaryHeap::<u32, 3>::from([3, 8, 1, 5, 9, 8, 7].to_vec(rt.alloc())?);
-        assert_eq!(rt; greatest_of_heap(rt.alloc(), heap, k)?.as_slice(), wanted, "at {k}");
-    }
-    Ok(())
-}

@@ -1,6 +1,6 @@
 use Rattle.std.proofs.Common.{◌∙◌}
-use Rattle.dary_heap_uses.proofs.Topping.{collected}
-use Rattle.dary_heap_uses.proofs.greatest.greatest_of_heap.Goals as goal
+use Rattle.dary_heap_uses.proofs.FirstFew.{collected}
+use Rattle.dary_heap_uses.proofs.ranking.first_ranked.Goals as goal
 
 pub returns-clause-greatest : goal.returns-clause-greatest
 returns-clause-greatest g c =
