@@ -1,5 +1,5 @@
 -- The first of the items that pops give.
-use Rattle.std.proofs.Common.{◌≡◌, ℕ, ◌+◌, ◌<◌, min, List, [], ◌∷◌, length, ap, ◌∙◌, arith, inl, inr, Option, Some, None, Result, Ok, Err, Vec, IfOk, slice_get, length-append}
+use Rattle.std.proofs.Common.{◌≡◌, ℕ, ◌+◌, ◌<◌, min, List, [], ◌∷◌, length, ap, ◌∙◌, arith, inl, inr, Option, Some, None, Result, Ok, Err, Vec, IfOk, length-append}
 use Rattle.std.proofs.lemmas.Bool.{cases_lt}
 use Rattle.std.proofs.lemmas.Iterator.{IsCollectResult}
 use Rattle.std.proofs.lemmas.List.Sorted.{length_permutation}

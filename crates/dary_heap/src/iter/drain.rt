@@ -26,8 +26,8 @@ impl<T: Ord, const D: usize> DaryHeap<T, D> {
 
     /// Takes all items out, in the order in which they are stored. It compares nothing.
     ///
-    /// The heap is empty from the call on, also where the iterator is dropped early or forgotten. It
-    /// hands its vector over, so it has no room left afterwards.
+    /// Once the iterator is gone, dropped early or forgotten too, the heap is empty. It hands its vector
+    /// over, so it has no room left then.
     ///
     /// ```
     /// let mut heap = BinaryHeap::from(vec![in alloc; 1, 3]?);
@@ -35,7 +35,7 @@ impl<T: Ord, const D: usize> DaryHeap<T, D> {
     /// assert!(rt; heap.is_empty());
     /// ```
     pub fn drain(&mut self) -> Drain<'_, T>
-        // Once the iterator is gone the heap is empty and has compared nothing.
+        // Once the iterator is gone the heap has no items, no room and the same count.
         ensures* emptied { sem 𝓛 (leaves_emptied T.row D.row T.Ord.own T.PartialEq T.PartialOrd.own self.entry (drain_lender result)) }
         ensures items { drain_rest result ≡ self.old.items }
         ensures fits { length (drain_rest result) < 2 ^ 64 }
