@@ -1,11 +1,12 @@
 -- The steps of a simulation, one more at a time.
-use Rattle.std.proofs.Common.{◌≡◌, ℕ, ◌+◌, ◌≤◌, List, [], ◌∷◌, ◌++◌, map, take, arith, refl, sym, ap, ◌∙◌, subst, append-nil, append_assoc}
+use Rattle.std.proofs.Common.{◌≡◌, ℕ, zero, suc, ◌+◌, ◌-◌, ◌≤◌, List, [], ◌∷◌, ◌++◌, length, map, take, arith, refl, sym, ap, ◌∙◌, subst, append-nil, append_assoc, length-append}
 use Rattle.std.proofs.lemmas.Fn.{FoldsTo-push}
 use Rattle.std.proofs.lemmas.List.{map-append}
 use Rattle.std.proofs.lemmas.List.Elements.{All-nil, All-push}
-use Rattle.std.proofs.lemmas.List.Sorted.{IsPermutation-refl, IsPermutation-trans, IsPermutation-cons, IsPermutation-append_left, IsPermutation-append_right, IsPermutation-append_comm, IsPermutation-to_front}
+use Rattle.std.proofs.lemmas.List.Sorted.{length_permutation, IsPermutation-refl, IsPermutation-trans, IsPermutation-cons, IsPermutation-append_left, IsPermutation-append_right, IsPermutation-append_comm, IsPermutation-to_front}
 use Rattle.dary_heap.specs.Bag.{IsSameBag}
-use Rattle.dary_heap_uses.specs.Simulation.{Agenda, Step, scheduled_in, NeverGoesBack, IsRun}
+use Rattle.dary_heap.specs.Bounds.{RisesWithin, push_bound, pop_bound}
+use Rattle.dary_heap_uses.specs.Simulation.{Agenda, Step, scheduled_in, pushes_bound, steps_bound, NeverGoesBack, IsRun}
 use Rattle.dary_heap_uses.specs.declared.simulation.Event.{Event}
 
 scheduled_in-push : (steps : List Step) (step : Step) → scheduled_in (steps ++ step ∷ []) ≡ scheduled_in steps ++ step.scheduled
@@ -15,6 +16,35 @@ scheduled_in-push (first ∷ steps) step = ap (λ (xs : List Event). first.sched
 NeverGoesBack-push : (steps : List Step) (moment later : ℕ) (step : Step) → NeverGoesBack moment steps later → later ≤ step.event.moment → NeverGoesBack moment (steps ++ step ∷ []) step.event.moment
 NeverGoesBack-push [] moment later step same up = (omega (arith, same, up), refl)
 NeverGoesBack-push (first ∷ steps) moment later step h up = (h.0, NeverGoesBack-push steps first.event.moment later step h.1 up)
+
+pushes_bound-push : (n k : ℕ) → pushes_bound n (suc k) ≡ pushes_bound n k + push_bound 3 (n + k)
+pushes_bound-push n zero = let same : n + 0 ≡ n = omega arith in omega (arith, ap (push_bound 3) same)
+pushes_bound-push n (suc k) =
+    let same : n + 1 + k ≡ n + suc k = omega arith in
+    omega (arith, pushes_bound-push (n + 1) k, ap (push_bound 3) same)
+
+-- a push more, onto those that were there and those that came
+pub pushed_more : {old mid new m : ℕ} (n k : ℕ) → m ≡ n + k → RisesWithin old mid (pushes_bound n k) → RisesWithin mid new (push_bound 3 m) → RisesWithin old new (pushes_bound n (k + 1))
+pushed_more {old} {new = new} n k many before push =
+    let next : suc k ≡ k + 1 = omega arith in
+    let fact : RisesWithin old new (pushes_bound n (suc k)) = record {
+      rises = omega (arith, before.rises, push.rises);
+      within = omega (arith, before.within, push.within, pushes_bound-push n k, ap (push_bound 3) many);
+    } in
+    subst (λ (count : ℕ). RisesWithin old new (pushes_bound n count)) next fact
+
+-- how many events wait after these steps, where n waited
+abbrev pub waits_after : ℕ → List Step → ℕ
+waits_after n [] = n
+waits_after n (step ∷ steps) = waits_after (n - 1 + length step.scheduled) steps
+
+waits_after-push : (n : ℕ) (steps : List Step) (step : Step) → waits_after n (steps ++ step ∷ []) ≡ waits_after n steps - 1 + length step.scheduled
+waits_after-push n [] step = refl
+waits_after-push n (first ∷ steps) step = waits_after-push (n - 1 + length first.scheduled) steps step
+
+steps_bound-push : (n : ℕ) (steps : List Step) (step : Step) → steps_bound n (steps ++ step ∷ []) ≡ steps_bound n steps + (pop_bound 3 (waits_after n steps) + pushes_bound (waits_after n steps - 1) (length step.scheduled))
+steps_bound-push n [] step = omega arith
+steps_bound-push n (first ∷ steps) step = omega (arith, steps_bound-push (n - 1 + length first.scheduled) steps step)
 
 abbrev events_of : List Step → List Event
 events_of steps = map (λ (step : Step). step.event) steps
@@ -26,9 +56,10 @@ module _ {H : Type 0} (handles : H → Event → List Event → H → Type 0) (e
     forward = refl;
     up_to_end = All-nil _;
     none_lost = subst (λ (xs : List Event). IsSameBag xs old.waiting) (sym (append-nil old.waiting)) (IsPermutation-refl old.waiting);
+    counted = record { rises = omega arith; within = omega arith };
   }
 
-module _ {H : Type 0} {handles : H → Event → List Event → H → Type 0} {end : ℕ} {old : Agenda} {first : H} {steps : List Step} {mid : Agenda} {last : H} (h : IsRun handles end old first steps [] mid last) (event : Event) (scheduled : List Event) (next : Agenda) (after : H) (forward : mid.moment ≤ event.moment) (present : next.moment ≡ event.moment) (up : event.moment ≤ end) (taken : IsSameBag mid.waiting (event ∷ next.waiting)) (handled : handles last event scheduled after) where
+module _ {H : Type 0} {handles : H → Event → List Event → H → Type 0} {end : ℕ} {old : Agenda} {first : H} {steps : List Step} {mid : Agenda} {last : H} (h : IsRun handles end old first steps [] mid last) (event : Event) (scheduled : List Event) (next : Agenda) (after : H) (forward : mid.moment ≤ event.moment) (present : next.moment ≡ event.moment) (up : event.moment ≤ end) (taken : IsSameBag mid.waiting (event ∷ next.waiting)) (handled : handles last event scheduled after) (many : waits_after (length old.waiting) steps ≡ length mid.waiting) (popped : RisesWithin mid.comparisons next.comparisons (pop_bound 3 (length mid.waiting))) where
   abbrev step : Step
   step = record { event = event; scheduled = scheduled }
 
@@ -51,6 +82,13 @@ module _ {H : Type 0} {handles : H → Event → List Event → H → Type 0} {e
   all_handled : events_of steps ++ (event ∷ scheduled ++ next.waiting) ≡ events_of more ++ (scheduled ++ next.waiting)
   all_handled = sym (append_assoc (events_of steps) (event ∷ []) (scheduled ++ next.waiting)) ∙ ap (λ (xs : List Event). xs ++ (scheduled ++ next.waiting)) (sym (map-append (λ (s : Step). s.event) steps (step ∷ [])))
 
+  left : length mid.waiting ≡ length next.waiting + 1
+  left = omega (arith, length_permutation mid.waiting (event ∷ next.waiting) taken)
+
+  -- the steps and what this one costs
+  bound : steps_bound (length old.waiting) more ≡ steps_bound (length old.waiting) steps + (pop_bound 3 (length mid.waiting) + pushes_bound (length mid.waiting - 1) (length scheduled))
+  bound = subst (λ (n : ℕ). steps_bound (length old.waiting) more ≡ steps_bound (length old.waiting) steps + (pop_bound 3 n + pushes_bound (n - 1) (length scheduled))) many (steps_bound-push (length old.waiting) steps step)
+
   -- what was scheduled is refused
   pub IsRun-refused : IsRun handles end old first more scheduled next after
   IsRun-refused = record {
@@ -58,21 +96,30 @@ module _ {H : Type 0} {handles : H → Event → List Event → H → Type 0} {e
     forward = subst (NeverGoesBack old.moment more) (sym present) (NeverGoesBack-push steps old.moment mid.moment step h.forward forward);
     up_to_end = All-push (λ (s : Step). s.event.moment ≤ end) steps step h.up_to_end up;
     none_lost = subst (λ (xs : List Event). IsSameBag xs (events_of more ++ (scheduled ++ next.waiting))) all_scheduled (subst (IsSameBag ((old.waiting ++ scheduled_in steps) ++ scheduled)) all_handled kept);
+    counted = record { rises = omega (arith, h.counted.rises, popped.rises); within = omega (arith, h.counted.within, popped.within, bound) };
   }
 
   pub IsRun-returned : (back : List Event) (new : Agenda) → back ≡ scheduled → new ≡ next → IsRun handles end old first more back new after
   IsRun-returned back new same unchanged = subst (λ (xs : List Event). IsRun handles end old first more xs new after) (sym same) (subst (λ (agenda : Agenda). IsRun handles end old first more scheduled agenda after) (sym unchanged) IsRun-refused)
 
   -- and here it waits from now on
-  pub IsRun-more : (new : Agenda) → new.moment ≡ next.moment → IsSameBag (scheduled ++ next.waiting) new.waiting → IsRun handles end old first more [] new after
-  IsRun-more new same waits =
+  pub IsRun-more : (new : Agenda) → new.moment ≡ next.moment → IsSameBag (scheduled ++ next.waiting) new.waiting → RisesWithin next.comparisons new.comparisons (pushes_bound (length next.waiting) (length scheduled)) → IsRun handles end old first more [] new after
+  IsRun-more new same waits pushed =
       let refused = IsRun-refused in
+      let fewer : length mid.waiting - 1 ≡ length next.waiting = omega (arith, left) in
       record {
         handled = refused.handled;
         forward = subst (NeverGoesBack old.moment more) (sym same) refused.forward;
         up_to_end = refused.up_to_end;
         none_lost = IsPermutation-trans _ _ _ refused.none_lost (IsPermutation-append_right (events_of more) (scheduled ++ next.waiting) new.waiting waits);
+        counted = record {
+          rises = omega (arith, refused.counted.rises, pushed.rises);
+          within = omega (arith, h.counted.within, popped.within, pushed.within, bound, ap (λ (n : ℕ). pushes_bound n (length scheduled)) fewer);
+        };
       }
+
+  pub many_more : (new : Agenda) → IsSameBag (scheduled ++ next.waiting) new.waiting → waits_after (length old.waiting) more ≡ length new.waiting
+  many_more new waits = omega (arith, waits_after-push (length old.waiting) steps step, many, left, length_permutation (scheduled ++ next.waiting) new.waiting waits, length-append scheduled next.waiting)
 
 -- of a list of events, one more came to a bag
 pub came_more : (events old items new : List Event) (index : ℕ) (event : Event) → take (index + 1) events ≡ take index events ++ event ∷ [] → IsSameBag (take index events ++ old) items → IsSameBag (event ∷ items) new → IsSameBag (take (index + 1) events ++ old) new

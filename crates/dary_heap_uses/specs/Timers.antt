@@ -4,10 +4,11 @@ use Rattle.std.specs.List.Sorted.{IsNonDecreasingBy}
 use Rattle.dary_heap.specs.Bag.{IsSameBag}
 use Rattle.dary_heap_uses.specs.declared.timers.Timer.{Timer}
 
--- what a caller sees of a queue: the bag of the timers that are set, and how many there is room for
+-- what a caller sees of a queue: the bag of the timers that are set, how many there is room for, and how many comparisons were made so far
 pub record Timers : Type 0 where
   pub set : List Timer
   pub room : ℕ
+  pub comparisons : ℕ
 
 -- the timer is set, and none is set for an earlier moment
 pub record IsEarliest (timers : List Timer) (timer : Timer) : Type 0 where

@@ -2,10 +2,11 @@
 //! schedules further ones.
 //!
 //! A clause sees a simulation as the `Agenda` of `specs/Simulation.antt`: the present moment, the bag of
-//! the events that wait, and how many there is room for.
+//! the events that wait, how many there is room for, and how many comparisons the heap made.
 ghost use Rattle.std.specs.Prelude.{◌≡◌, ◌+◌, ◌<◌, ◌≤◌, [], ◌∷◌, ◌++◌, List, All, map, length, IfSome, IfNone, IfOk, IfErr, OnOk, OnErr, IsOk};
 ghost use Rattle.dary_heap.specs.Bag.{IsSameBag};
-ghost use Rattle.dary_heap_uses.specs.Simulation.{Step, IsRun};
+ghost use Rattle.dary_heap.specs.Bounds.{RisesWithin, push_bound, pop_bound};
+ghost use Rattle.dary_heap_uses.specs.Simulation.{Step, IsRun, pushes_bound};
 
 use dary_heap::TernaryHeap;
 use std::alloc::{AllocError, Global};
@@ -49,7 +50,7 @@ impl Model for Simulation {
 
     ghost Value = { Agenda };
 
-    ghost view = { λ simulation. record { moment = simulation.moment; waiting = map (λ event. event.0) simulation.waiting.items; room = simulation.waiting.capacity } };
+    ghost view = { λ simulation. record { moment = simulation.moment; waiting = map (λ event. event.0) simulation.waiting.items; room = simulation.waiting.capacity; comparisons = simulation.waiting.comparisons } };
 
     ghost invariant = { λ simulation. All (λ event. simulation.moment ≤ event.moment) (map (λ event. event.0) simulation.waiting.items) };
 }
@@ -60,6 +61,7 @@ impl Simulation {
         ensures moment { result.moment ≡ 0 }
         ensures waiting { result.waiting ≡ [] }
         ensures room { result.room ≡ 0 }
+        ensures uncounted { result.comparisons ≡ 0 }
     {
         Simulation {
             moment: 0,
@@ -81,6 +83,7 @@ impl Simulation {
     pub fn reserve(&mut self, additional: usize) -> Result<(), AllocError>
         ensures moment { self.new.moment ≡ self.old.moment }
         ensures waiting { self.new.waiting ≡ self.old.waiting }
+        ensures uncounted { self.new.comparisons ≡ self.old.comparisons }
         ensures room { OnOk result (length self.new.waiting + additional ≤ self.new.room) }
         ensures succeeds { length self.old.waiting + additional ≤ self.old.room → IsOk result }
         ensures unchanged { OnErr result (self.new ≡ self.old) }
@@ -91,11 +94,13 @@ impl Simulation {
     /// Schedules an event. The caller owes that it is not before the present moment.
     ///
     /// It takes memory only where all room is in use. Where there is none for it, it comes back, and
-    /// nothing has changed.
+    /// nothing has changed. The heap makes at most as many comparisons as for a push onto the events that
+    /// wait.
     pub fn schedule(&mut self, event: Event) -> Result<(), Event>
         requires { self.old.moment ≤ event.moment }
         ensures scheduled { OnOk result (IsSameBag (event ∷ self.old.waiting) self.new.waiting) }
         ensures moment { self.new.moment ≡ self.old.moment }
+        ensures counted { OnOk result (RisesWithin self.old.comparisons self.new.comparisons (push_bound 3 (length self.old.waiting))) }
         ensures room { self.old.room ≤ self.new.room }
         ensures kept { length self.old.waiting < self.old.room → self.new.room ≡ self.old.room }
 
@@ -116,8 +121,8 @@ impl Simulation {
     /// that is below the budget, no event up to the end waits any more.
     ///
     /// Where there is no room and no memory for what the handler scheduled last, these events come back, and
-    /// nothing is handled after that. It takes the comparisons of a pop and of the pushes for each event
-    /// that it handles.
+    /// nothing is handled after that. For each event that it handles the heap makes at most as many
+    /// comparisons as for a pop of the events that wait then and a push of each that is scheduled.
     pub fn run<H: Handler>(
         &mut self,
         handler: &mut H,
@@ -145,6 +150,7 @@ impl Simulation {
         ensures present { IfSome result (λ event. self.new.moment ≡ event.moment) }
         ensures up_to_end { IfSome result (λ event. event.moment ≤ end) }
         ensures taken { IfSome result (λ event. IsSameBag self.old.waiting (event ∷ self.new.waiting)) }
+        ensures counted { RisesWithin self.old.comparisons self.new.comparisons (pop_bound 3 (length self.old.waiting)) }
         ensures room { self.new.room ≡ self.old.room }
         ensures none { IfNone result (All (λ event. end < event.moment) self.old.waiting) }
         ensures unchanged { IfNone result (self.new ≡ self.old) }
@@ -160,6 +166,7 @@ impl Simulation {
         requires { All (λ event. self.old.moment ≤ event.moment) events.items }
         ensures scheduled { OnOk result (IsSameBag (events.items ++ self.old.waiting) self.new.waiting) }
         ensures moment { self.new.moment ≡ self.old.moment }
+        ensures counted { OnOk result (RisesWithin self.old.comparisons self.new.comparisons (pushes_bound (length self.old.waiting) (length events.items))) }
         ensures full { OnErr result (self.old.room < length self.old.waiting + length events.items) }
         ensures returned { IfErr result (λ back. back.items ≡ events.items) }
         ensures unchanged { OnErr result (self.new ≡ self.old) }
@@ -175,7 +182,8 @@ impl Simulation {
 /// Adds all these events, for which there is room.
 fn push_all(waiting: &mut TernaryHeap<Reverse<Event>>, events: &[Event])
     requires { length waiting.old.items + length events.now ≤ waiting.old.capacity }
-    ensures { IsSameBag (events.now ++ map (λ event. event.0) waiting.old.items) (map (λ event. event.0) waiting.new.items) }
+    ensures came { IsSameBag (events.now ++ map (λ event. event.0) waiting.old.items) (map (λ event. event.0) waiting.new.items) }
+    ensures counted { RisesWithin waiting.old.comparisons waiting.new.comparisons (pushes_bound (length waiting.old.items) (length events.now)) }
 {
     for event in events {
         waiting.push(Reverse(*event)).unwrap();

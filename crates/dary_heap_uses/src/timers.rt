@@ -1,9 +1,10 @@
 //! A timer queue: timers are set for a moment, and taken out once it has come.
 //!
 //! A clause sees a queue as the `Timers` of `specs/Timers.antt`: the bag of the timers that are set, a list
-//! whose order says nothing, and how many there is room for.
-ghost use Rattle.std.specs.Prelude.{◌≡◌, ◌+◌, ◌<◌, ◌≤◌, ◌↔◌, [], ◌∷◌, All, length, vec_len, vec_capacity, IfSome, IfNone, IfErr, OnOk, OnErr, IsOk};
+//! whose order says nothing, how many there is room for, and how many comparisons the heap made.
+ghost use Rattle.std.specs.Prelude.{◌≡◌, ◌+◌, ◌-◌, ◌<◌, ◌≤◌, ◌↔◌, [], ◌∷◌, All, length, vec_len, vec_capacity, IfSome, IfNone, IfErr, OnOk, OnErr, IsOk};
 ghost use Rattle.dary_heap.specs.Bag.{IsSameBag};
+ghost use Rattle.dary_heap.specs.Bounds.{RisesWithin, push_bound, pop_bound, pops_bound};
 ghost use Rattle.dary_heap_uses.specs.Timers.{IsEarliest, AddsDue};
 
 use dary_heap::QuaternaryHeap;
@@ -32,7 +33,7 @@ impl Model for TimerQueue {
 
     ghost Value = { Timers };
 
-    ghost view = { λ queue. record { set = map (λ timer. timer.0) queue.waiting.items; room = queue.waiting.capacity } };
+    ghost view = { λ queue. record { set = map (λ timer. timer.0) queue.waiting.items; room = queue.waiting.capacity; comparisons = queue.waiting.comparisons } };
 }
 
 impl TimerQueue {
@@ -40,6 +41,7 @@ impl TimerQueue {
     pub fn new(alloc: Global) -> TimerQueue
         ensures set { result.set ≡ [] }
         ensures room { result.room ≡ 0 }
+        ensures uncounted { result.comparisons ≡ 0 }
     {
         TimerQueue {
             waiting: QuaternaryHeap::new(alloc),
@@ -51,6 +53,7 @@ impl TimerQueue {
     /// It is refused only where that room was missing, and then nothing has changed.
     pub fn reserve(&mut self, additional: usize) -> Result<(), AllocError>
         ensures set { self.new.set ≡ self.old.set }
+        ensures uncounted { self.new.comparisons ≡ self.old.comparisons }
         ensures room { OnOk result (length self.new.set + additional ≤ self.new.room) }
         ensures succeeds { length self.old.set + additional ≤ self.old.room → IsOk result }
         ensures unchanged { OnErr result (self.new ≡ self.old) }
@@ -61,9 +64,10 @@ impl TimerQueue {
     /// Sets a timer. It takes memory only where all room is in use. Where there is none for it, it comes
     /// back, and nothing has changed.
     ///
-    /// It takes the comparisons of a push onto the timers that are set.
+    /// The heap makes at most as many comparisons as for a push onto the timers that are set.
     pub fn set(&mut self, timer: Timer) -> Result<(), Timer>
         ensures set { OnOk result (IsSameBag (timer ∷ self.old.set) self.new.set) }
+        ensures counted { OnOk result (RisesWithin self.old.comparisons self.new.comparisons (push_bound 4 (length self.old.set))) }
         ensures room { self.old.room ≤ self.new.room }
         ensures kept { length self.old.set < self.old.room → self.new.room ≡ self.old.room }
 
@@ -81,11 +85,13 @@ impl TimerQueue {
 
     /// Takes the earliest timer if its moment has come, and otherwise none.
     ///
-    /// It takes the comparisons of a pop of the timers that are set, and none where it takes no timer.
+    /// The heap makes at most as many comparisons as for a pop of the timers that are set, and none if no
+    /// timer is taken.
     pub fn take_next(&mut self, now: u64) -> Option<Timer>
         ensures earliest { IfSome result (IsEarliest self.old.set) }
         ensures due { IfSome result (λ timer. timer.moment ≤ now) }
         ensures taken { IfSome result (λ timer. IsSameBag self.old.set (timer ∷ self.new.set)) }
+        ensures counted { RisesWithin self.old.comparisons self.new.comparisons (pop_bound 4 (length self.old.set)) }
         ensures room { self.new.room ≡ self.old.room }
         ensures none_due { IfNone result (All (λ timer. now < timer.moment) self.old.set) }
         ensures unchanged { IfNone result (self.new ≡ self.old) }
@@ -97,9 +103,11 @@ impl TimerQueue {
     /// Takes all timers whose moments have come, in the order of these, and adds them to a list.
     ///
     /// It is refused only where the list has no room for all timers that are set and gets no memory for
-    /// them; then nothing has changed. It takes the comparisons of a pop for each timer that it takes.
+    /// them; then nothing has changed. For each timer that is taken the heap makes at most as many
+    /// comparisons as for a pop of those that are set by then.
     pub fn take_due(&mut self, now: u64, due: &mut Vec<Timer>) -> Result<(), AllocError>
         ensures taken { OnOk result (AddsDue now self.old.set self.new.set due.old.items due.new.items) }
+        ensures counted { RisesWithin self.old.comparisons self.new.comparisons (pops_bound 4 (length self.old.set) - pops_bound 4 (length self.new.set)) }
         ensures room { self.new.room ≡ self.old.room }
         ensures succeeds { vec_len due.old + length self.old.set ≤ vec_capacity due.old → IsOk result }
         ensures unchanged { OnErr result (self.new ≡ self.old) }

@@ -1,7 +1,9 @@
-use Rattle.std.proofs.Common.{arith, get_or, refl}
+use Rattle.std.proofs.Common.{◌≡◌, ℕ, arith, get_or, length, refl, subst}
 use Rattle.std.proofs.lemmas.List.{take_more}
 use Rattle.dary_heap.proofs.Reversed.{came}
-use Rattle.dary_heap_uses.proofs.Running.{came_more}
+use Rattle.dary_heap.specs.Bounds.{RisesWithin}
+use Rattle.dary_heap_uses.specs.Simulation.{pushes_bound}
+use Rattle.dary_heap_uses.proofs.Running.{came_more, pushed_more}
 use Rattle.dary_heap_uses.specs.declared.simulation.Event.{Event}
 use Rattle.dary_heap_uses.proofs.simulation.push_all.Goals as goal
 
@@ -15,9 +17,17 @@ loop-event-preserved c =
     let index = c.loop-event.event-index in
     let none : Event = record { moment = 0; kind = 0 } in
     let bag = rw c.unwrap.ensures at c.push.ensures.bag in
+    let counted = rw c.unwrap.ensures at c.push.ensures.counted in
     let len = rw c.unwrap.ensures at c.push.ensures.len in
     let kept = c.push.ensures.kept (omega (arith, before.room)) in
     record {
       came = came_more events _ _ _ index (get_or events index none) (take_more events index none c.loop-event-test.true) before.came (came _ c.loop-event.waiting.items _ _ refl bag);
+      counted = pushed_more _ index before.many before.counted counted;
+      many = omega (arith, before.many, len);
       room = omega (arith, before.room, len, kept);
     }
+
+pub returns-clause-counted : goal.returns-clause-counted
+returns-clause-counted c =
+    let all : c.loop-event.event-index ≡ length c.args.events.now = omega arith in
+    subst (λ (count : ℕ). RisesWithin c.args.waiting.now.comparisons c.loop-event.waiting.comparisons (pushes_bound (length c.args.waiting.now.items) count)) all c.loop-event.invariant.counted

@@ -1,7 +1,7 @@
-use Rattle.std.proofs.Common.{ℕ, ◌+◌, ◌∷◌, [], ◌++◌, ◌∙◌, length, ap, arith}
+use Rattle.std.proofs.Common.{ℕ, ◌+◌, ◌∷◌, [], ◌++◌, ◌∙◌, length, ap, arith, refl}
 use Rattle.std.proofs.lemmas.List.{length_push}
 use Rattle.std.proofs.lemmas.Result.{err_from_is_err_and}
-use Rattle.dary_heap_uses.proofs.Running.{IsRun-more, IsRun-returned}
+use Rattle.dary_heap_uses.proofs.Running.{IsRun-begun, IsRun-more, many_more, IsRun-returned}
 use Rattle.dary_heap_uses.specs.Simulation.{Agenda, Step}
 use Rattle.dary_heap_uses.proofs.simulation.Simulation.run.Goals as goal
 
@@ -17,8 +17,11 @@ returns-in_err-schedule_all-clause-refused g c =
       step,
       omega (arith, before.1, c.loop-handled-test.true),
       failed.returned,
-      IsRun-returned before.2 c.in-Some.event c.handle.result.items c.take_next.new.self c.handle.new.self next.forward next.present next.up_to_end next.taken c.handle.ensures.handled _ c.schedule_all.new.self failed.returned failed.unchanged,
+      IsRun-returned before.2 c.in-Some.event c.handle.result.items c.take_next.new.self c.handle.new.self next.forward next.present next.up_to_end next.taken c.handle.ensures.handled before.3 next.counted _ c.schedule_all.new.self failed.returned failed.unchanged,
     )
+
+pub loop-handled-init : goal.loop-handled-init
+loop-handled-init g c = ([], refl, IsRun-begun g.H.Handler.handles c.args.end c.args.self.now c.args.handler.now, refl)
 
 pub loop-handled-preserved : goal.loop-handled-preserved
 loop-handled-preserved g c =
@@ -26,7 +29,8 @@ loop-handled-preserved g c =
     let next = c.in-Some.ensures in
     let done = c.in_ok-schedule_all.ensures in
     let step : Step = record { event = c.in-Some.event; scheduled = c.handle.result.items } in
-    (before.0 ++ step ∷ [], length_push before.0 step ∙ ap (λ (n : ℕ). n + 1) before.1, IsRun-more before.2 c.in-Some.event c.handle.result.items c.take_next.new.self c.handle.new.self next.forward next.present next.up_to_end next.taken c.handle.ensures.handled c.schedule_all.new.self done.moment done.scheduled)
+    let many = many_more before.2 c.in-Some.event c.handle.result.items c.take_next.new.self c.handle.new.self next.forward next.present next.up_to_end next.taken c.handle.ensures.handled before.3 next.counted c.schedule_all.new.self done.scheduled in
+    (before.0 ++ step ∷ [], length_push before.0 step ∙ ap (λ (n : ℕ). n + 1) before.1, IsRun-more before.2 c.in-Some.event c.handle.result.items c.take_next.new.self c.handle.new.self next.forward next.present next.up_to_end next.taken c.handle.ensures.handled before.3 next.counted c.schedule_all.new.self done.moment done.scheduled done.counted, many)
 
 pub returns-in_err-schedule_all-clause-full : goal.returns-in_err-schedule_all-clause-full
 returns-in_err-schedule_all-clause-full g c =

@@ -13,4 +13,4 @@ invariant_of-self-2 c =
     let news : All (λ (e : Event). present ≤ e.moment) c.args.events.items = subst (λ (moment : ℕ). All (λ (e : Event). moment ≤ e.moment) c.args.events.items) (sym (ap (λ (a : Agenda). a.moment) c.self.view_is)) c.requires in
     let came : All (λ (e : Event). present ≤ e.moment) c.deref.result.now = subst (λ (events : List Event). All (λ (e : Event). present ≤ e.moment) events) (sym c.deref.ensures.value) news in
     let waiting : All (λ (e : Event). present ≤ e.moment) (map (λ (r : Reverse Event). r.0) old) = subst (λ (items : List (Reverse Event)). All (λ (e : Event). present ≤ e.moment) (map (λ (r : Reverse Event). r.0) items)) (sym c.reserve.ensures.items) c.self.invariant in
-    All-permutation (λ (e : Event). present ≤ e.moment) (c.deref.result.now ++ map (λ (r : Reverse Event). r.0) old) _ c.push_all.ensures (All-append (λ (e : Event). present ≤ e.moment) c.deref.result.now (map (λ (r : Reverse Event). r.0) old) came waiting)
+    All-permutation (λ (e : Event). present ≤ e.moment) (c.deref.result.now ++ map (λ (r : Reverse Event). r.0) old) _ c.push_all.ensures.came (All-append (λ (e : Event). present ≤ e.moment) c.deref.result.now (map (λ (r : Reverse Event). r.0) old) came waiting)

@@ -1,6 +1,6 @@
 use Rattle.std.proofs.Common.{arith, ◌∙◌}
 use Rattle.std.proofs.lemmas.List.Sorted.{length_permutation}
-use Rattle.dary_heap_uses.proofs.Taking.{IsTaking-more}
+use Rattle.dary_heap_uses.proofs.Taking.{IsTaking-more, pops_more}
 use Rattle.dary_heap_uses.proofs.timers.TimerQueue.take_due.Goals as goal
 
 pub loop-timer-smaller : goal.loop-timer-smaller
@@ -14,4 +14,11 @@ loop-timer-preserved c =
       taking = IsTaking-more before.taking c.in-Some.timer _ _ found.earliest found.due found.taken c.push_reserved.ensures.items;
       room = omega (arith, length_permutation _ _ found.taken, c.push_reserved.ensures.len, c.push_reserved.ensures.capacity, before.room);
       kept = found.room ∙ before.kept;
+      rises = omega (arith, before.rises, found.counted.rises);
+      within = omega (arith, before.within, found.counted.within, pops_more (length_permutation _ _ found.taken));
     }
+
+pub returns-clause-counted : goal.returns-clause-counted
+returns-clause-counted c =
+    let ended = c.loop-timer.invariant in
+    rw (c.in_default.ensures.unchanged) record { rises = ended.rises; within = omega (arith, ended.within) }
