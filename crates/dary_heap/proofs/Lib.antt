@@ -32,6 +32,8 @@ pub mod SameReplies
 pub mod SameStates
 pub mod Bags
 pub mod Cheapest
+pub mod Apart
+pub mod Examining
 pub mod Walks
 pub mod Relaxing
 pub mod Searching

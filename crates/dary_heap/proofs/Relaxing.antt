@@ -6,6 +6,7 @@ use Rattle.std.proofs.lemmas.List.{get_or_default}
 use Rattle.std.proofs.lemmas.List.Elements.{Contains-push, Contains-append_left, Contains-append_right, Contains-append_cases}
 use Rattle.std.proofs.lemmas.List.Sorted.{length_permutation}
 use Rattle.std.proofs.lemmas.List.Sums.{sum_by-set}
+use Rattle.dary_heap.proofs.Apart.{apart_more}
 use Rattle.dary_heap.proofs.Bags.{came_first, came_later, came_cases}
 use Rattle.dary_heap.proofs.Fronts.{alone}
 use Rattle.dary_heap.specs.Bag.{IsSameBag}
@@ -38,6 +39,8 @@ module _ {limit cost : ℕ} where
       ends = λ d h. subst (λ (d : Edge). get_or found d.node limit ≤ cost + d.cost) (alone e d h) (omega (arith, found_is limit found e.node x within read));
       keeps = λ s h. h;
       adds = λ s h. inl h;
+      cheaper = λ s h. inl h;
+      apart = λ h. h;
       changes = λ v. inl refl;
       spent = omega arith;
     }
@@ -47,12 +50,14 @@ module _ {limit cost : ℕ} where
     relaxes_lower {grown} under bag =
         let c = cost + e.cost in
         let next = state c e.node in
+        let known = found_is limit found e.node x within read in
+        let falls : (v : ℕ) → get_or (set found e.node c) v limit ≤ get_or found v limit = λ v. elim (written limit found e.node c v within) [
+          | inl p ↦ omega (arith, p.1, known, ap (λ i. get_or found i limit) p.0)
+          | inr q ↦ omega arith
+        ] in
         record {
           same = length-set found e.node c;
-          falls = λ v. elim (written limit found e.node c v within) [
-            | inl p ↦ omega (arith, p.1, found_is limit found e.node x within read, ap (λ i. get_or found i limit) p.0)
-            | inr q ↦ omega arith
-          ];
+          falls = falls;
           sums = λ d h. subst (λ (d : Edge). cost + d.cost < limit) (alone e d h) below;
           ends = λ d h. subst (λ (d : Edge). get_or (set found e.node c) d.node limit ≤ cost + d.cost) (alone e d h) (omega (arith, get_or-set_same found e.node c limit within));
           keeps = λ s h. came_later next waiting grown s bag h;
@@ -60,6 +65,17 @@ module _ {limit cost : ℕ} where
             | inl is ↦ inr record { edge = e; stands = Contains-push [] e; ends = sym (ap (λ (s : State). s.position) is); costs = sym (ap (λ (s : State). s.cost) is) }
             | inr old ↦ inl old
           ];
+          cheaper = λ s h. elim (came_cases next waiting grown s bag h) [
+            | inl is ↦ inr (subst (λ (s : State). s.cost < get_or found s.position limit) is (omega (arith, known)))
+            | inr old ↦ inl old
+          ];
+          apart = λ before. record {
+            distinct = apart_more next waiting grown (λ t h same. omega (arith, known, before.above t h, ap (λ i. get_or found i limit) same)) before.distinct bag;
+            above = λ s h. elim (came_cases next waiting grown s bag h) [
+              | inl is ↦ subst (λ (s : State). get_or (set found e.node c) s.position limit ≤ s.cost) is (omega (arith, get_or-set_same found e.node c limit within))
+              | inr old ↦ omega (arith, falls s.position, before.above s old)
+            ];
+          };
           changes = λ v. elim (written limit found e.node c v within) [
             | inl p ↦ inr (rw p.1 (rw p.0 (came_first next waiting grown bag)))
             | inr q ↦ inl q
@@ -82,6 +98,11 @@ module _ {limit cost : ℕ} where
       ]
       | inr along ↦ inr (IsAlong-among more (edges ++ more) s (Contains-append_right edges more) along)
     ];
+    cheaper = λ s h. elim (b.cheaper s h) [
+      | inl c ↦ a.cheaper s c
+      | inr lower ↦ inr (omega (arith, lower, a.falls s.position))
+    ];
+    apart = λ before. b.apart (a.apart before);
     changes = λ v. elim (b.changes v) [
       | inl e ↦ elim (a.changes v) [
         | inl d ↦ inl (e ∙ d)

@@ -1,5 +1,6 @@
 -- The states of a search, and what the examining of edges makes of the costs found so far and of the states that wait. A cost found is the limit where no walk was found. Only private functions speak of these, but for the order of states.
-use Rattle.std.specs.Prelude.{◌≡◌, ◌⊎◌, ℕ, ◌+◌, ◌<◌, ◌≤◌, List, length, slice_index_or, sum, Contains}
+use Rattle.std.specs.Prelude.{◌≡◌, ◌⊎◌, ℕ, ◌+◌, ◌<◌, ◌≤◌, nat_eq, ◌&&◌, Bool, List, length, slice_index_or, sum, Contains}
+use Rattle.std.specs.List.{IsDistinct}
 use Rattle.std.specs.Ordering.{nat_cmp, on, flip_args, then_cmp}
 use Rattle.std.specs.declared.cmp.Ordering.{Ordering}
 use Rattle.dary_heap.specs.declared.shortest_path.Edge.{Edge}
@@ -26,6 +27,15 @@ pub record HasTooLarge (limit cost : ℕ) (edges : List Edge) : Type 0 where
   pub stands : Contains edges edge
   pub too_large : limit ≤ cost + edge.cost
 
+-- whether two states are equal
+abbrev pub same_state : State → State → Bool
+same_state s t = nat_eq s.cost t.cost && nat_eq s.position t.position
+
+-- the states that wait differ, and none is cheaper than what was found for its node
+pub record AreApart (limit : ℕ) (found : List ℕ) (waiting : List State) : Type 0 where
+  pub distinct : IsDistinct same_state waiting
+  pub above : (s : State) → Contains waiting s → slice_index_or found s.position limit ≤ s.cost
+
 -- the edges of a node that costs so much were examined: found and waiting before, lower and grown after
 pub record Relaxes (limit cost : ℕ) (edges : List Edge) (found : List ℕ) (waiting : List State) (lower : List ℕ) (grown : List State) : Type 0 where
   -- each node still has a cost
@@ -38,6 +48,9 @@ pub record Relaxes (limit cost : ℕ) (edges : List Edge) (found : List ℕ) (wa
   -- no state is lost, and each new one came over one of the edges
   pub keeps : (s : State) → Contains waiting s → Contains grown s
   pub adds : (s : State) → Contains grown s → Contains waiting s ⊎ IsAlong cost edges s
+  -- a new state is cheaper than what was found for its node, and so none waits twice
+  pub cheaper : (s : State) → Contains grown s → Contains waiting s ⊎ (s.cost < slice_index_or found s.position limit)
+  pub apart : AreApart limit found waiting → AreApart limit lower grown
   -- where a cost fell, a state with it waits
   pub changes : (v : ℕ) → (slice_index_or lower v limit ≡ slice_index_or found v limit) ⊎ Contains grown (state (slice_index_or lower v limit) v)
   -- as many states as came, so far at least did the costs fall

@@ -7,14 +7,20 @@ ghost use Rattle.std.proofs.Common.{rules};
 ghost use Rattle.std.specs.Cmp.{partial_order_from_own_ties};
 ghost use Rattle.std.specs.Cmp.Rules.{comparing};
 ghost use Rattle.std.specs.Ordering.{as_partial_cmp};
-ghost use Rattle.std.specs.Prelude.{◌≡◌, ◌+◌, ◌<◌, ◌≤◌, [], ◌∷◌, IfOk, IfErr, OnOk, IfSome, IfNone, All, length};
+ghost use Rattle.std.specs.Prelude.{◌≡◌, ◌+◌, ◌*◌, ◌<◌, ◌≤◌, [], ◌∷◌, ◌++◌, IfOk, IfErr, OnOk, IfSome, IfNone, All, length};
+ghost use Rattle.std.specs.List.{sum_by};
+ghost use Rattle.dary_heap.specs.Bounds.{RisesWithin, push_bound, pop_bound};
 ghost use Rattle.dary_heap.specs.Searching.{state_cmp, Relaxes, HasTooLarge};
+ghost use Rattle.dary_heap.specs.Examining.{AreExamined, AreExaminedOnce, Pushes};
 ghost use Rattle.dary_heap.specs.Walk.{IsWithin, IsLeastCost, IsUnreached, HasCritical, NoneCriticalBelow};
 ghost use Rattle.dary_heap.specs.declared.shortest_path.PathRefusal.TheVariants.{NoMemory, CostTooLarge};
 
 use crate::heap::TernaryHeap;
 use std::alloc::Global;
 use std::cmp::Ordering;
+use work::Work;
+
+mod work;
 
 /// An edge of a graph: the node that it leads to, and what it costs.
 #[derive(Clone, Copy, PartialEq, Eq, Debug)]
@@ -119,12 +125,47 @@ pub fn shortest_path(
     ensures uncritical { OnOk result (NoneCriticalBelow usize.MAX adj_list.now.items start goal) }
     ensures too_large { IfErr result (λ refusal. refusal ≡ CostTooLarge → HasCritical usize.MAX adj_list.now.items start goal) }
 {
+    let mut heap = TernaryHeap::new(alloc);
+    let mut work = Work::new();
+    search(alloc, adj_list, start, goal, &mut heap, &mut work)
+}
+
+/// The search itself, with the states that wait in this heap, which is empty, and with an account of its
+/// work.
+fn search(
+    alloc: Global,
+    adj_list: &Vec<Vec<Edge>>,
+    start: usize,
+    goal: usize,
+    heap: &mut TernaryHeap<State>,
+    work: &mut Work,
+) -> Result<Option<usize>, PathRefusal>
+    requires graph { IsWithin (length adj_list.now.items) adj_list.now.items }
+    requires start { start < length adj_list.now.items }
+    requires empty { heap.old.items ≡ [] }
+    requires unexamined { work.old.examined ≡ [] }
+    requires unpushed { work.old.pushes ≡ 0 }
+    ensures least { IfOk result (λ answer. IfSome answer (IsLeastCost adj_list.now.items start goal)) }
+    ensures unreached { IfOk result (λ answer. IfNone answer (IsUnreached adj_list.now.items start goal)) }
+    ensures uncritical { OnOk result (NoneCriticalBelow usize.MAX adj_list.now.items start goal) }
+    ensures too_large { IfErr result (λ refusal. refusal ≡ CostTooLarge → HasCritical usize.MAX adj_list.now.items start goal) }
+
+    // The edges of a node are examined once at most, so no more than there are.
+    ensures once { AreExaminedOnce adj_list.now.items work.new.examined }
+    ensures within { length work.new.examined ≤ sum_by (λ row. length row.items) adj_list.now.items }
+
+    // A state is pushed for the start, and at most one for each edge that is examined. Each is popped once
+    // at most.
+    ensures pushed { work.new.pushes ≤ length work.new.examined + 1 }
+    ensures few { length heap.new.items ≤ length work.new.examined + 1 }
+    ensures counted { RisesWithin heap.old.comparisons heap.new.comparisons ((length work.new.examined + 1) * (push_bound 3 (length work.new.examined) + pop_bound 3 (length work.new.examined + 1))) }
+{
     // What a walk to each node was found to cost so far, and the greatest number where none was found.
     let Ok(mut found) = vec![in alloc; usize::MAX; adj_list.len()] else {
         return Err(PathRefusal::NoMemory);
     };
     found[start] = 0;
-    let mut heap = TernaryHeap::new(alloc);
+    work.add_push();
     let Ok(()) = heap.push(State {
         cost: 0,
         position: start,
@@ -139,7 +180,7 @@ pub fn shortest_path(
         if cost > found[position] {
             continue;
         }
-        relax(&adj_list[position], cost, &mut found, &mut heap)?;
+        relax(&adj_list[position], cost, &mut found, heap, work)?;
     }
     Ok(None)
 }
@@ -150,14 +191,18 @@ fn relax(
     cost: usize,
     found: &mut Vec<usize>,
     heap: &mut TernaryHeap<State>,
+    work: &mut Work,
 ) -> Result<(), PathRefusal>
     requires { All (λ edge. edge.node < length found.old.items) edges.now.items }
     ensures ok { OnOk result (Relaxes usize.MAX cost edges.now.items found.old.items heap.old.items found.new.items heap.new.items) }
     ensures too_large { IfErr result (λ refusal. refusal ≡ CostTooLarge → HasTooLarge usize.MAX cost edges.now.items) }
     ensures no_memory { IfErr result (λ refusal. refusal ≡ NoMemory → length heap.new.items ≡ heap.new.capacity) }
+    ensures once { AreExamined edges.now.items work.old.examined work.new.examined heap.old heap.new }
+    ensures pushed { work.new.pushes + length work.old.examined ≤ work.old.pushes + length work.new.examined }
+    ensures all { OnOk result (work.new.examined ≡ work.old.examined ++ edges.now.items) }
 {
     for edge in edges {
-        examine(*edge, cost, found, heap)?;
+        examine(*edge, cost, found, heap, work)?;
     }
     Ok(())
 }
@@ -169,12 +214,17 @@ fn examine(
     cost: usize,
     found: &mut Vec<usize>,
     heap: &mut TernaryHeap<State>,
+    work: &mut Work,
 ) -> Result<(), PathRefusal>
     requires { edge.node < length found.old.items }
     ensures ok { OnOk result (Relaxes usize.MAX cost (edge ∷ []) found.old.items heap.old.items found.new.items heap.new.items) }
     ensures too_large { IfErr result (λ refusal. refusal ≡ CostTooLarge → usize.MAX ≤ cost + edge.cost) }
     ensures no_memory { IfErr result (λ refusal. refusal ≡ NoMemory → length heap.new.items ≡ heap.new.capacity) }
+    ensures examined { work.new.examined ≡ work.old.examined ++ edge ∷ [] }
+    ensures pushed { work.new.pushes ≤ work.old.pushes + 1 }
+    ensures pushes { Pushes 1 heap.old heap.new }
 {
+    work.add_edge(&edge);
     // Whether the sum reaches the greatest number, without forming it.
     if edge.cost >= usize::MAX - cost {
         return Err(PathRefusal::CostTooLarge);
@@ -184,6 +234,7 @@ fn examine(
         position: edge.node,
     };
     if next.cost < found[next.position] {
+        work.add_push();
         let Ok(()) = heap.push(next) else {
             return Err(PathRefusal::NoMemory);
         };

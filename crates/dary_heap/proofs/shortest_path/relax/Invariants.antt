@@ -1,6 +1,12 @@
-use Rattle.std.proofs.Common.{take}
+use Rattle.std.proofs.Common.{◌≡◌, ◌+◌, ◌≤◌, ◌++◌, take}
+use Rattle.dary_heap.specs.Examining.{Pushes}
 use Rattle.dary_heap.specs.Searching.{Relaxes}
 use Rattle.dary_heap.proofs.shortest_path.relax.Given as goal
 
 abbrev pub invariant-loop-edge : goal.invariant-loop-edge
-invariant-loop-edge l = Relaxes 18446744073709551615 l.cost (take l.edge-index l.edges.items) l.initial.found.items l.initial.heap.items l.found.items l.heap.items
+invariant-loop-edge l = record {
+  relaxes : Relaxes 18446744073709551615 l.cost (take l.edge-index l.edges.items) l.initial.found.items l.initial.heap.items l.found.items l.heap.items;
+  examined : l.work.examined ≡ l.initial.work.examined ++ take l.edge-index l.edges.items;
+  pushed : l.work.pushes ≤ l.initial.work.pushes + l.edge-index;
+  pushes : Pushes l.edge-index l.initial.heap l.heap;
+}

@@ -1,0 +1,47 @@
+-- States that differ, and lists in which no two states are the same.
+use Rattle.std.proofs.Common.{◌≡◌, ℕ, ◌<◌, Bool, true, false, ◌&&◌, nat_eq, List, ◌∷◌, Contains, refl, sym, ap, ◌∙◌, arith}
+use Rattle.std.proofs.lemmas.Bool.{true≢false}
+use Rattle.std.proofs.lemmas.List.Elements.{All-contains, All-contains_itself, All-from_recursion, All-weaker, recursion_from_All}
+use Rattle.std.proofs.lemmas.Map.Keys.{IsDistinct-IsPermutation, IsDistinct-cons, IsDistinct-head, IsDistinct-tail}
+use Rattle.std.specs.Bool.{Decides}
+use Rattle.std.specs.Cmp.{nat_eq_equiv, unsigned_Decides}
+use Rattle.std.specs.List.{IsDistinct}
+use Rattle.dary_heap.specs.Bag.{IsSameBag}
+use Rattle.dary_heap.specs.Searching.{same_state}
+use Rattle.dary_heap.specs.declared.shortest_path.State.{State}
+
+flips : (s t : State) → same_state s t ≡ same_state t s
+flips s t = ap (λ b. b && nat_eq s.position t.position) (nat_eq_equiv.symm s.cost t.cost) ∙ ap (λ b. nat_eq t.cost s.cost && b) (nat_eq_equiv.symm s.position t.position)
+
+both : (b c : Bool) → b ≡ true → c ≡ true → (b && c) ≡ true
+both true true h k = refl
+both true false h k = absurd (true≢false (sym k))
+both false c h k = absurd (true≢false (sym h))
+
+itself : (s : State) → same_state s s ≡ true
+itself s = both (nat_eq s.cost s.cost) (nat_eq s.position s.position) ((unsigned_Decides s.cost s.cost).1 refl) ((unsigned_Decides s.position s.position).1 refl)
+
+not_both : (b c : Bool) (m n i j : ℕ) → Decides b (m ≡ n) → Decides c (i ≡ j) → (i ≡ j → m < n) → (b && c) ≡ false
+not_both true true m n i j p q less = let under : m < n = less (q.0 refl) in absurd (omega (arith, p.0 refl))
+not_both true false m n i j p q less = refl
+not_both false c m n i j p q less = refl
+
+-- a state that is cheaper than each of its node is none of them
+pub apart_more : (s : State) (waiting grown : List State) → ((t : State) → Contains waiting t → s.position ≡ t.position → s.cost < t.cost) → IsDistinct same_state waiting → IsSameBag (s ∷ waiting) grown → IsDistinct same_state grown
+apart_more s waiting grown cheaper apart bag =
+    let differs = recursion_from_All (λ t. same_state s t ≡ false) waiting (All-weaker (Contains waiting) (λ t. same_state s t ≡ false) (λ t in'. not_both (nat_eq s.cost t.cost) (nat_eq s.position t.position) s.cost t.cost s.position t.position (unsigned_Decides s.cost t.cost) (unsigned_Decides s.position t.position) (cheaper t in')) waiting (All-contains_itself waiting)) in
+    IsDistinct-IsPermutation same_state flips (s ∷ waiting) grown bag (IsDistinct-cons same_state s waiting differs apart)
+
+module _ (s : State) (waiting rest : List State) (apart : IsDistinct same_state waiting) (bag : IsSameBag waiting (s ∷ rest)) where
+  taken : IsDistinct same_state (s ∷ rest)
+  taken = IsDistinct-IsPermutation same_state flips waiting (s ∷ rest) bag apart
+
+  -- the others still differ
+  pub apart_less : IsDistinct same_state rest
+  apart_less = IsDistinct-tail same_state s rest taken
+
+  -- and the one that was taken isn't among them
+  pub not_twice : Contains rest s → ⊥
+  not_twice in' =
+      let differs = All-contains (λ t. same_state s t ≡ false) rest s (All-from_recursion (λ t. same_state s t ≡ false) rest (IsDistinct-head same_state s rest taken)) in' in
+      true≢false (sym (itself s) ∙ differs)

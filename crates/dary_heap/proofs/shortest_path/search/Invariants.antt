@@ -1,0 +1,17 @@
+use Rattle.std.proofs.Common.{◌≡◌, ℕ, ◌+◌, ◌≤◌, List, length, sum}
+use Rattle.dary_heap.specs.Examining.{all_edges_of}
+use Rattle.dary_heap.proofs.Examining.{AreOnce, IsCharged}
+use Rattle.dary_heap.proofs.Searching.{IsSearch}
+use Rattle.dary_heap.proofs.shortest_path.search.Given as goal
+
+abbrev pub invariant-loop-cost : goal.invariant-loop-cost
+invariant-loop-cost l = record {
+  search : IsSearch 18446744073709551615 l.adj_list.items l.start l.goal l.found.items l.heap.items;
+  -- the edges of some nodes were examined, each node's once
+  once : (nodes : List ℕ) × AreOnce 18446744073709551615 l.found.items l.heap.items nodes × (all_edges_of l.adj_list.items nodes ≡ l.work.examined);
+  pushed : l.work.pushes ≤ length l.work.examined + 1;
+  charged : IsCharged l.fn.heap.comparisons l.heap (length l.work.examined);
+}
+
+abbrev pub decreases-loop-cost : goal.decreases-loop-cost
+decreases-loop-cost l = sum l.found.items + length l.heap.items
