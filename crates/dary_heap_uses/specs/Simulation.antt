@@ -45,4 +45,5 @@ pub record IsRun {H : Type 0} (handles : H → Event → List Event → H → Ty
   pub up_to_end : All (λ step. step.event.moment ≤ end) steps
   -- each event that was scheduled was handled once, still waits or was refused
   pub none_lost : IsSameBag (old.waiting ++ scheduled_in steps) (map (λ step. step.event) steps ++ (refused ++ new.waiting))
+  -- no more comparisons were made than these steps may cost
   pub counted : RisesWithin old.comparisons new.comparisons (steps_bound (length old.waiting) steps)

@@ -104,7 +104,7 @@ impl TimerQueue {
     ///
     /// It is refused only where the list has no room for all timers that are set and gets no memory for
     /// them; then nothing has changed. For each timer that is taken the heap makes at most as many
-    /// comparisons as for a pop of those that are set by then.
+    /// comparisons as for a pop of the timers that are still set.
     pub fn take_due(&mut self, now: u64, due: &mut Vec<Timer>) -> Result<(), AllocError>
         ensures taken { OnOk result (AddsDue now self.old.set self.new.set due.old.items due.new.items) }
         ensures counted { RisesWithin self.old.comparisons self.new.comparisons (pops_bound 4 (length self.old.set) - pops_bound 4 (length self.new.set)) }
