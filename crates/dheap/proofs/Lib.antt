@@ -1,6 +1,5 @@
 pub mod Bounds
 pub mod Decimals
-pub mod Joined
 pub mod Numerals
 pub mod Parting
 pub mod Plain

@@ -1,14 +1,11 @@
 -- How a script is read, line by line.
-use Rattle.std.proofs.Common.{◌≡◌, ◌+◌, ◌-◌, ◌<◌, ◌≤◌, ◌==◌, ℕ, ℤ, suc, zero, Bool, true, false, cond, List, [], ◌∷◌, ◌++◌, length, take, drop, get_or, Option, None, Some, IfSome, refl, sym, ap, ◌∙◌, append_assoc, append-nil, arith}
-use Rattle.std.specs.List.{slice_split, onto_first, filter, AllWithin, HoldsAt}
-use Rattle.std.proofs.lemmas.List.Elements.{filter-append}
+use Rattle.std.proofs.Common.{◌≡◌, ◌+◌, ◌-◌, ◌<◌, ◌≤◌, ◌==◌, ℕ, ℤ, suc, zero, Bool, true, false, List, [], ◌∷◌, ◌++◌, length, take, drop, Option, None, Some, IfSome, refl, sym, ap, ◌∙◌, append_assoc, append-nil, arith}
+use Rattle.std.specs.List.{slice_split, onto_first, AllWithin, HoldsAt}
 use Rattle.std.proofs.lemmas.List.Splits.{slice_split-cons_yes, slice_split-cons_no}
 use Rattle.std.proofs.Math.Bool.{true≢false}
-use Rattle.std.proofs.Math.Seq.{take-suc}
-use Rattle.std.proofs.lemmas.Bool.{eqb-true}
 use Rattle.std.proofs.lemmas.List.{take_all, length-drop}
 use Rattle.dary_heap.specs.Machine.{Command}
-use Rattle.dheap.specs.Script.{Say, CarryOut, CarryOutLine, IsFirstBad, has_command, lines_of}
+use Rattle.dheap.specs.Script.{Say, CarryOut, CarryOutLine, IsFirstBad, lines_of}
 use Rattle.dheap.specs.declared.serve.fault.Fault.{Fault}
 use Rattle.dheap.specs.declared.serve.fault.Fault.TheVariants.{BadLine}
 use Rattle.dheap.specs.declared.serve.line.Line.{Line}
@@ -38,20 +35,6 @@ module _ {P : Type 0} (means : ℤ → P → Type 0) where
   CarryOut-more commands more all (l ∷ ls) line (first, later, split, is, rest) k e =
       (first, later ++ more, e ∙ ap (λ c. c ++ more) split ∙ append_assoc first later more, is, CarryOut-more later more (later ++ more) ls line rest k refl)
 
--- what is kept of the lines, one line more
-module _ (lines : List Line) (line : Line) (held more : List Line) (held_is : held ≡ filter has_command lines) where
-  pub kept_with : has_command line ≡ true → more ≡ held ++ line ∷ [] → more ≡ filter has_command (lines ++ line ∷ [])
-  kept_with has e =
-      e ∙ ap (λ ls. ls ++ line ∷ []) held_is
-      ∙ ap (λ b. filter has_command lines ++ cond b (line ∷ []) []) (sym has)
-      ∙ sym (filter-append has_command lines (line ∷ []))
-
-  pub kept_without : has_command line ≡ false → more ≡ held → more ≡ filter has_command (lines ++ line ∷ [])
-  kept_without has e =
-      e ∙ held_is ∙ sym (append-nil (filter has_command lines))
-      ∙ ap (λ b. filter has_command lines ++ cond b (line ∷ []) []) (sym has)
-      ∙ sym (filter-append has_command lines (line ∷ []))
-
 -- a script has no more lines than bytes and one
 pub few_lines : {X : Type 0} (p : X → Bool) (xs : List X) → length (slice_split p xs) ≤ length xs + 1
 few_lines p [] = omega arith
@@ -72,16 +55,7 @@ pub first_bad : (fault : Fault) (known : Option (List ℕ)) → IfSome known (λ
 first_bad fault None h = tt
 first_bad fault (Some script) h = (h.0, h.2)
 
-pub next_line : (lines : List Line) (i : ℕ) (d : Line) → i < length lines → take i lines ++ get_or lines i d ∷ [] ≡ take (i + 1) lines
-next_line lines i d inside =
-    let next : suc i ≡ i + 1 = omega arith in
-    sym (take-suc lines i d inside) ∙ ap (λ n. take n lines) next
-
 -- what `is_empty` says of a list
 pub is_something : {X : Type 0} (xs : List X) (empty : Bool) → empty ≡ (length xs == 0) → empty ≡ false → 0 < length xs
 is_something [] empty e f = absurd (true≢false (sym e ∙ f))
 is_something (x ∷ xs) empty e f = omega arith
-
-pub is_nothing : {X : Type 0} (xs : List X) (empty : Bool) → empty ≡ (length xs == 0) → empty ≡ true → xs ≡ []
-is_nothing [] empty e t = refl
-is_nothing (x ∷ xs) empty e t = absurd (omega (arith, eqb-true (length (x ∷ xs)) 0 (sym e ∙ t)))

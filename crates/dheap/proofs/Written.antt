@@ -1,14 +1,17 @@
 -- What a loop over replies has written.
-use Rattle.std.proofs.Common.{◌≡◌, ℕ, ℤ, suc, ◌<◌, ◌+◌, List, [], ◌∷◌, ◌++◌, Option, None, Some, All, is_some, true, take, length, get_or, sym, ap, ◌∙◌, subst, append_assoc, append-nil, arith}
+use Rattle.std.proofs.Common.{◌≡◌, ℕ, ℤ, suc, ◌<◌, ◌+◌, List, [], ◌∷◌, ◌++◌, Option, None, Some, Result, Ok, Err, OnOk, IfErr, All, is_some, true, take, length, get_or, sym, ap, ◌∙◌, subst, append_assoc, append-nil, arith}
+use Rattle.std.specs.List.{AllWithin}
 use Rattle.std.proofs.Math.Seq.{take-suc}
 use Rattle.std.proofs.lemmas.List.{map-append}
 use Rattle.std.proofs.lemmas.List.Concat.{flat_map-append}
-use Rattle.std.proofs.lemmas.List.Elements.{All-append, All-cons, All-nil}
+use Rattle.std.proofs.lemmas.List.Elements.{All-append, All-cons, All-from_all_within, All-map, All-nil}
 use Rattle.std.specs.Io.KnownBytes.{Appends, Keeps, append_known}
 use Rattle.dary_heap.specs.Machine as machine
 use Rattle.dary_heap.specs.Reading as read
 use Rattle.dary_heap.specs.declared.run.Reply.{Reply}
 use Rattle.dheap.specs.Answers.{answer, line, text}
+use Rattle.dheap.specs.Faults.{status_of}
+use Rattle.dheap.specs.declared.serve.fault.Fault.{Fault}
 
 abbrev IsAnswered : machine.Reply ℤ → Type 0
 IsAnswered r = is_some (answer r) ≡ true
@@ -42,12 +45,17 @@ all-passed (Some x) None c left told p e q = absurd p
 all-passed (Some x) (Some y) None left told p e q = absurd q
 all-passed (Some x) (Some y) (Some z) left told p e q = q ∙ sym (append-nil y) ∙ ap (λ l. y ++ l) (sym e) ∙ p
 
-pub nothing_told : (a : Option (List ℕ)) → Appends a a []
-nothing_told None = tt
-nothing_told (Some x) = sym (append-nil x)
+pub all_answered : {D : ℕ} (replies : List (Reply ℤ D)) → AllWithin (λ r. IsAnswered (read.reply r)) replies 0 (length replies) → All IsAnswered (read.replies replies)
+all_answered replies h = All-map IsAnswered read.reply replies (All-from_all_within (λ r. IsAnswered (read.reply r)) replies h)
 
-pub told_more : (a b c : Option (List ℕ)) (told says : List ℕ) → Appends a b told → Appends b c says → Appends a c (told ++ says)
-told_more None b c told says p q = tt
-told_more (Some x) None c told says p q = absurd p
-told_more (Some x) (Some y) None told says p q = absurd q
-told_more (Some x) (Some y) (Some z) told says p q = q ∙ ap (λ l. l ++ says) p ∙ append_assoc x told says
+-- what is printed where each reply has an answer
+pub printed_by : {E : Type 0} (may : List ℕ → Type 0) (a b : Option (List ℕ)) (says : List ℕ) (answered : Type 0) (result : Result (Unit {0}) E)
+    → OnOk result answered → OnOk result (Appends a b says) → (answered → may says) → OnOk result ((printed : List ℕ) × may printed × Appends a b printed)
+printed_by may a b says answered (Err e) whole written law = tt
+printed_by may a b says answered (Ok u) whole written law = (says, law whole, written)
+
+-- what might have been printed where the output failed
+pub printable_by : (may : List ℕ → Type 0) (says : List ℕ) (answered : Type 0) (result : Result (Unit {0}) Fault)
+    → IfErr result (λ fault. status_of fault ≡ 4 → answered) → (answered → may says) → IfErr result (λ fault. status_of fault ≡ 4 → (printed : List ℕ) × may printed)
+printable_by may says answered (Err e) ran law = λ four. (says, law (ran four))
+printable_by may says answered (Ok u) ran law = tt

@@ -1,7 +1,7 @@
 -- What a run of the program prints.
 use Rattle.std.specs.Prelude.{◌≡◌, ℕ, ℤ, int_le, Bool, true, List, [], All, is_some}
 use Rattle.std.specs.Ordering.{int_cmp}
-use Rattle.dary_heap.specs.Machine.{Command, Reply, Run, last_state}
+use Rattle.dary_heap.specs.Machine.{Command, Reply, Run}
 use Rattle.dheap.specs.Answers.{answer, text}
 use Rattle.dheap.specs.Script.{Say, CarryOut, lines_of}
 use Rattle.dheap.specs.declared.serve.line.Line.{Line}
@@ -9,12 +9,6 @@ use Rattle.dheap.specs.declared.serve.line.Line.{Line}
 -- asked about x, the bound n answers whether x is at least n, and stays as it is
 abbrev pub AsksAtLeast : ℤ → ℤ → Bool → ℤ → Type 0
 AsksAtLeast n x answer after = (answer ≡ int_le n x) × (after ≡ n)
-
--- from one state to another, this may be printed for these lines: the answers to the replies that the bag machine may give to their commands, where each has one
-abbrev pub MayPrintFrom : List ℤ → List Line → List ℕ → List ℤ → Type 0
-MayPrintFrom old lines printed new = (commands : List (Command ℤ ℤ)) × (replies : List (Reply ℤ)) × (states : List (List ℤ))
-    × CarryOut (λ n bound. bound ≡ n) commands lines × Run int_cmp AsksAtLeast old commands replies states × (last_state old states ≡ new)
-    × All (λ reply. is_some (answer reply) ≡ true) replies × (printed ≡ text replies)
 
 -- this may be printed for a script: the answers to the replies that the bag machine, from the empty bag, may give to the commands of its lines, where each has one
 abbrev pub MayPrint : List ℕ → List ℕ → Type 0

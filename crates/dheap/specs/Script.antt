@@ -1,5 +1,5 @@
 -- What the lines of a script say.
-use Rattle.std.specs.Prelude.{◌≡◌, ◌==◌, ◌||◌, ◌++◌, ◌+◌, not, ℕ, ℤ, Bool, true, false, List, [], ◌∷◌, length, filter, codes, Option, None, Some}
+use Rattle.std.specs.Prelude.{◌≡◌, ◌==◌, ◌||◌, ◌++◌, ◌+◌, not, ℕ, ℤ, Bool, List, [], ◌∷◌, length, filter, codes, Option, None, Some}
 use Rattle.std.specs.List.{slice_split}
 use Rattle.std.specs.Str.Parse.{digits_value, signed_digits_value, without_leading_plus}
 use denote.Ref.{Bor}
@@ -48,11 +48,6 @@ Says words (Sorted n) = IsWithCount words (codes "sorted") n
 -- the first line of the script is this good line, and the rest comes after its line feed
 abbrev pub IsFirstLine : List ℕ → Line → List ℕ → Type 0
 IsFirstLine script line rest = (text : List ℕ) × (lines_of script ≡ text ∷ lines_of rest) × Says (words_of text) line
-
--- the line is not blank
-abbrev pub has_command : Line → Bool
-has_command Blank = false
-has_command line = true
 
 -- each of these lines says this
 abbrev pub Say : List (List ℕ) → List Line → Type 0

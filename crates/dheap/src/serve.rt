@@ -1,12 +1,12 @@
 //! One run of the program, over any streams.
-ghost use Rattle.std.specs.Prelude.{◌≡◌, ◌≢◌, ◌+◌, ◌-◌, ◌*◌, ◌/◌, ◌%◌, ◌<◌, ◌≤◌, ◌↔◌, ◌++◌, ◌∷◌, ℕ, List, [], All, map, codes, is_some, option_to_list, string_bytes, true, drop, IfOk, IfSome, IfNone, IfErr, OnOk, MatchOption, filter};
+ghost use Rattle.std.specs.Prelude.{◌≡◌, ◌≢◌, ◌⊎◌, ◌+◌, ◌-◌, ◌*◌, ◌/◌, ◌%◌, ◌<◌, ◌≤◌, ◌↔◌, ◌++◌, ◌∷◌, ℕ, List, [], All, map, codes, is_some, option_to_list, string_bytes, true, drop, IfOk, IfSome, IfNone, IfErr, OnOk, MatchOption};
 ghost use Rattle.std.specs.Fmt.{decimal, sign_text, signed_decimal};
 ghost use Rattle.std.specs.Io.KnownBytes.{Appends, Keeps, IsAtEnd};
 ghost use Rattle.dary_heap.specs.Reading as read;
 ghost use Rattle.dheap.specs.Answers.{answer, line, listing, text};
 ghost use Rattle.dheap.specs.Faults.{status_of};
-ghost use Rattle.dheap.specs.Program.{MayPrintFrom, MayPrint};
-ghost use Rattle.dheap.specs.Script.{CarryOut, CarryOutLine, IsFirstBad, Say, Says, has_command, lines_left, lines_of, words_of};
+ghost use Rattle.dheap.specs.Program.{MayPrint};
+ghost use Rattle.dheap.specs.Script.{CarryOut, CarryOutLine, IsFirstBad, Say, Says, lines_left, lines_of, words_of};
 ghost use Rattle.dheap.specs.Words.{IsArity};
 ghost use Rattle.dheap.specs.declared.serve.fault.Fault.TheVariants.{BadLine};
 ghost use Rattle.dheap.specs.declared.serve.line.Line.{Line};
@@ -30,9 +30,6 @@ const HELD: usize = 1 << 13;
 /// The longest line of a number is a sign, 20 digits and a line feed.
 const LONGEST: usize = 22;
 
-/// So many commands are made, run and answered at once.
-const AT_ONCE: usize = 1 << 10;
-
 /// The two digits of each number below 100.
 static PAIRS: [u8; 200] = *b"00010203040506070809\
     10111213141516171819\
@@ -51,7 +48,7 @@ static PAIRS: [u8; 200] = *b"00010203040506070809\
 /// `words` are the arguments after the program's own name: one digit from `1` to `8`, which is the arity
 /// of the heap. The status is 0 where all went well. Otherwise a line on `errors` says what was met first:
 /// other words (2), a bad line (1), a lack of memory (3) or a stream that failed (4). Nothing is written
-/// to `output` before the last line is read. Whether `errors` can be written changes no status.
+/// to `output` before all commands have run. Whether `errors` can be written changes no status.
 pub fn serve<R: Read, W: Write, E: Write>(
     alloc: Global,
     words: &[String],
@@ -130,27 +127,37 @@ fn answer<W: Write, const D: usize>(
     ensures bad { IfErr result (λ fault. status_of fault ≡ 1 → (number : ℕ) × (fault ≡ BadLine number) × IsFirstBad (lines_of script.items) number) }
     ensures printed { OnOk result ((printed : List ℕ) × MayPrint script.items printed × Appends (W.contents output.old) (W.contents output.new) printed) }
     ensures silent { IfErr result (λ fault. status_of fault < 3 → Keeps (W.contents output.old) (W.contents output.new)) }
+
+    // Where the output failed, the whole run went well before.
+    ensures ran { IfErr result (λ fault. status_of fault ≡ 4 → (printed : List ℕ) × MayPrint script.items printed) }
 {
-    let lines = lines(alloc, script.as_slice())?;
-    // Its room is given back before the heap takes some.
+    let commands = commands(
+        alloc,
+        script.as_slice(),
+        |bound: i64| move |item: &i64| *item >= bound,
+    )?;
+    // Its room is given back before the replies and the heap take some.
     drop(script);
     let mut heap = DaryHeap::<i64, D>::new(alloc);
-    let mut rest = lines.as_slice();
-    while !rest.is_empty() {
-        let (here, after) = rest.split_at(rest.len().min(AT_ONCE));
-        answer_lines(alloc, here, &mut heap, output)?;
-        rest = after;
+    match run(alloc, &mut heap, commands) {
+        Ok(replies) => write_replies(alloc, replies.as_slice(), output),
+        Err(_) => Err(Fault::NoMemory),
     }
-    Ok(())
 }
 
-/// The lines of a script that are not blank.
-fn lines(alloc: Global, script: &[u8]) -> Result<Vec<Line>, Fault>
-    ensures said { IfOk result (λ kept. (lines : List Line) × Say (lines_of script.now) lines × (kept.items ≡ filter has_command lines)) }
-    ensures fault { IfErr result (λ fault. status_of fault ≢ 2) }
+/// The commands of a script, with the predicates that `at_least` makes of bounds. Each line becomes its
+/// command before the next one is read.
+fn commands<const D: usize, P: FnMut(&i64) -> bool + Drop, F: Fn(i64) -> P>(
+    alloc: Global,
+    script: &[u8],
+    at_least: F,
+) -> Result<Vec<Command<i64, D, P>>, Fault>
+    requires { F.IsAlwaysCallable at_least }
+    ensures said { IfOk result (λ commands. (lines : List Line) × Say (lines_of script.now) lines × CarryOut (λ n p. F.post at_least n p) (read.commands commands.items) lines) }
+    ensures fault { IfErr result (λ fault. (status_of fault ≡ 1) ⊎ (status_of fault ≡ 3)) }
     ensures bad { IfErr result (λ fault. status_of fault ≡ 1 → (number : ℕ) × (fault ≡ BadLine number) × IsFirstBad (lines_of script.now) number) }
 {
-    let mut kept = Vec::new(alloc);
+    let mut commands = Vec::new(alloc);
     let mut rest = Some(script);
     for number in 1..u64::MAX {
         let Some(here) = rest else {
@@ -159,12 +166,12 @@ fn lines(alloc: Global, script: &[u8]) -> Result<Vec<Line>, Fault>
         let Some((line, after)) = read_line(here) else {
             return Err(Fault::BadLine(number));
         };
-        if line.has_command() {
-            kept.push(line)?;
+        if let Some(command) = command(line, &at_least) {
+            commands.push(command)?;
         }
         rest = after;
     }
-    Ok(kept)
+    Ok(commands)
 }
 
 /// Reads the first line, unless it is bad, and gives what comes after its line feed.
@@ -189,41 +196,6 @@ fn first_line(script: &[u8]) -> (&[u8], Option<&[u8]>)
     }
 }
 
-/// Runs the commands of lines on a heap, and writes the answers.
-fn answer_lines<W: Write, const D: usize>(
-    alloc: Global,
-    lines: &[Line],
-    heap: &mut DaryHeap<i64, D>,
-    output: &mut W,
-) -> Result<(), Fault>
-    ensures fault { IfErr result (λ fault. 3 ≤ status_of fault) }
-    ensures printed { OnOk result ((printed : List ℕ) × MayPrintFrom heap.old.items lines.now printed heap.new.items × Appends (W.contents output.old) (W.contents output.new) printed) }
-{
-    let commands = commands(alloc, lines, |bound: i64| move |item: &i64| *item >= bound)?;
-    match run(alloc, heap, commands) {
-        Ok(replies) => write_replies(alloc, replies.as_slice(), output),
-        Err(_) => Err(Fault::NoMemory),
-    }
-}
-
-/// The commands of lines, with the predicates that `at_least` makes of bounds.
-fn commands<const D: usize, P: FnMut(&i64) -> bool + Drop, F: Fn(i64) -> P>(
-    alloc: Global,
-    lines: &[Line],
-    at_least: F,
-) -> Result<Vec<Command<i64, D, P>>, AllocError>
-    requires { F.IsAlwaysCallable at_least }
-    ensures { IfOk result (λ commands. CarryOut (λ n p. F.post at_least n p) (read.commands commands.items) lines.now) }
-{
-    let mut commands = Vec::with_capacity(alloc, lines.len())?;
-    for line in lines {
-        if let Some(command) = command(*line, &at_least) {
-            commands.push(command)?;
-        }
-    }
-    Ok(commands)
-}
-
 /// The command of a line. A blank line has none.
 fn command<const D: usize, P: FnMut(&i64) -> bool, F: Fn(i64) -> P>(
     line: Line,
@@ -244,8 +216,27 @@ fn command<const D: usize, P: FnMut(&i64) -> bool, F: Fn(i64) -> P>(
     }
 }
 
-/// Writes a line for each reply, up to the first that says that there was no memory.
+/// Writes a line for each reply, up to the first that says that there was no memory. That fault came in the
+/// run, and so before any of the output.
 fn write_replies<W: Write, const D: usize>(
+    alloc: Global,
+    replies: &[Reply<i64, D>],
+    output: &mut W,
+) -> Result<(), Fault>
+    ensures fault { IfErr result (λ fault. 3 ≤ status_of fault) }
+    ensures whole { OnOk result (All (λ reply. is_some (answer reply) ≡ true) (read.replies replies.now)) }
+    ensures written { OnOk result (Appends (W.contents output.old) (W.contents output.new) (text (read.replies replies.now))) }
+    ensures ran { IfErr result (λ fault. status_of fault ≡ 4 → All (λ reply. is_some (answer reply) ≡ true) (read.replies replies.now)) }
+{
+    match write_answers(alloc, replies, output) {
+        Ok(()) => Ok(()),
+        Err(fault) if replies.iter().all(has_answer) => Err(fault),
+        Err(_) => Err(Fault::NoMemory),
+    }
+}
+
+/// Writes a line for each reply, up to the first that says that there was no memory.
+fn write_answers<W: Write, const D: usize>(
     alloc: Global,
     replies: &[Reply<i64, D>],
     output: &mut W,
@@ -268,6 +259,17 @@ fn write_replies<W: Write, const D: usize>(
     pass_on(&mut held, output)?;
     output.flush()?;
     Ok(())
+}
+
+/// Whether a reply has an answer. Without one it says that there was no memory.
+fn has_answer<const D: usize>(reply: &Reply<i64, D>) -> bool
+    ensures { result ≡ is_some (answer (read.reply reply.now)) }
+{
+    match reply {
+        Reply::Pushed | Reply::Popped(_) | Reply::Asked(_) => true,
+        Reply::Len(_) | Reply::Done | Reply::Taken(_) => true,
+        _ => false,
+    }
 }
 
 /// Writes what is held back.

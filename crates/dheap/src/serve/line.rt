@@ -2,7 +2,7 @@
 ghost use Rattle.std.specs.Prelude.{◌≡◌, ◌+◌, ◌-◌, ◌*◌, ◌^◌, ◌<◌, ◌≤◌, ◌++◌, ℕ, List, [], ◌∷◌, length, take, IfSome, MatchOption, SomeIff};
 ghost use Rattle.std.specs.Int.{IsInRange};
 ghost use Rattle.std.specs.Str.Parse.{AllDigits, IsNumeral, digits_value, signed_digits_value, without_leading_plus};
-ghost use Rattle.dheap.specs.Script.{IsFirstLine, Says, has_command, is_blank, words_of};
+ghost use Rattle.dheap.specs.Script.{IsFirstLine, Says, is_blank, words_of};
 ghost use Rattle.dheap.specs.Words.{IsCount, IsNumber};
 ghost use Rattle.dheap.specs.declared.serve.line.Line.{Line};
 
@@ -42,13 +42,6 @@ impl Line {
             return None;
         }
         with_argument(name, argument)
-    }
-
-    /// Whether it has a command.
-    pub fn has_command(self) -> bool
-        ensures { result ≡ has_command self }
-    {
-        !matches!(self, Line::Blank)
     }
 }
 

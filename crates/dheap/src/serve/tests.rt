@@ -7,6 +7,7 @@ use std::test::Fail;
 
 mod faults;
 mod numbers;
+mod order;
 
 const USAGE: &str = "usage: dheap ARITY (1 to 8)\n";
 

@@ -1,8 +1,11 @@
-use Rattle.std.proofs.Common.{take}
+use Rattle.std.proofs.Common.{◌≡◌, ◌+◌, ◌++◌, ℕ, List, length}
 use Rattle.dary_heap.specs.Reading as read
-use Rattle.dheap.specs.Script.{CarryOut}
+use Rattle.dheap.specs.Script.{CarryOut, Say, lines_left, lines_of}
+use Rattle.dheap.specs.declared.serve.line.Line.{Line}
 use Rattle.dheap.proofs.serve.commands.Given as goal
 
--- the commands carry out the lines before this place
-abbrev pub invariant-loop-line : goal.invariant-loop-line
-invariant-loop-line g l = goal.F-IsAlwaysCallable g l.at_least × CarryOut (λ n p. goal.F-post g l.at_least n p) (read.commands l.commands.items) (take l.line-index l.lines)
+-- the lines before this number are read, and the commands carry them out
+abbrev pub invariant-loop-number : goal.invariant-loop-number
+invariant-loop-number g l =
+    goal.F-IsAlwaysCallable g l.at_least × ((before : List (List ℕ)) × (lines : List Line) × (lines_of l.script ≡ before ++ lines_left l.rest) × (l.number ≡ length before + 1)
+    × Say before lines × CarryOut (λ n p. goal.F-post g l.at_least n p) (read.commands l.commands.items) lines)

@@ -2,7 +2,7 @@ use Rattle.std.proofs.Common.{◌≡◌, All, is_some, true, take}
 use Rattle.std.specs.Io.KnownBytes.{Appends, append_known}
 use Rattle.dary_heap.specs.Reading as read
 use Rattle.dheap.specs.Answers.{answer, text}
-use Rattle.dheap.proofs.serve.write_replies.Given as goal
+use Rattle.dheap.proofs.serve.write_answers.Given as goal
 
 -- the lines of those before this place are written or held back
 abbrev pub invariant-loop-reply : goal.invariant-loop-reply

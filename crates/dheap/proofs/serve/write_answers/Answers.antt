@@ -1,0 +1,23 @@
+use Rattle.std.proofs.Common.{sym, subst, subst₂, ◌∙◌, ◌+◌, take}
+use Rattle.std.specs.Io.KnownBytes.{Appends, append_known}
+use Rattle.dary_heap.specs.Reading as read
+use Rattle.dheap.specs.Answers.{text}
+use Rattle.dheap.proofs.Written.{whole-next, text-next, held-more, passed-on}
+use Rattle.dheap.proofs.serve.write_answers.Goals.{then-len-ge-HELD+in_ok-pass_on-2, else-len-ge-HELD}
+use Rattle.dheap.proofs.serve.write_answers.Goals as goal
+
+pub loop-reply-preserved : goal.loop-reply-preserved
+loop-reply-preserved g c =
+    let contents = g.W.Write.contents in
+    let told = sym c.in_ok-write_reply.ensures.told ∙ c.if-not-branch.false in
+    let held = held-more _ _ _ _ _ _ c.loop-reply.invariant.written c.in_ok-write_reply.ensures.written in
+    let all = subst (Appends _ _) (sym (text-next _ _ _ c.loop-reply-test.true c.reply-item.is)) held in
+    record {
+      whole = whole-next _ _ _ c.loop-reply-test.true c.reply-item.is told c.loop-reply.invariant.whole;
+      written = elim c.if-len-ge-HELD.branch [
+        | then-len-ge-HELD+in_ok-pass_on-2 w ↦ subst₂ (λ o h. Appends (contents c.args.output.now) (append_known (contents o) h.items) (text (read.replies (take (c.loop-reply.reply-index + 1) c.args.replies.now))))
+            (sym w.output-is) (sym w.held-is) (passed-on _ _ _ _ _ _ all w.in_ok-pass_on-2.ensures.passed w.in_ok-pass_on-2.ensures.none)
+        | else-len-ge-HELD w ↦ subst₂ (λ o h. Appends (contents c.args.output.now) (append_known (contents o) h.items) (text (read.replies (take (c.loop-reply.reply-index + 1) c.args.replies.now))))
+            (sym w.output-is) (sym w.held-is) all
+      ];
+    }
