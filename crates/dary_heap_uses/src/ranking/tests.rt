@@ -24,7 +24,11 @@ fn the_first_few_are_the_greatest(rt: HostRuntime) -> Result<(), Fail> {
     ];
     for (k, wanted) in cases {
         let heap = DaryHeap::<u32, 3>::from(NUMBERS.to_vec(rt.alloc())?);
-        assert_eq!(rt; first_ranked(rt.alloc(), heap, k)?.as_slice(), wanted, "at {k}");
+        assert_eq!(rt;
+            first_ranked(rt.alloc(), heap, k)?.as_slice(),
+            wanted,
+            "at {k}"
+        );
     }
     Ok(())
 }
