@@ -37,6 +37,9 @@ pub mod Examining
 pub mod Walks
 pub mod Relaxing
 pub mod Searching
-pub mod HoleOpens
-pub mod HoleLent
-pub mod Hollow
+pub mod HeldItem
+pub mod PlacesOwned
+pub mod WalksAt
+pub mod OthersSeen
+pub mod SlotsLent
+pub mod Moving

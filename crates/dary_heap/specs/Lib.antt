@@ -14,12 +14,16 @@ pub mod Hole
 pub mod Lending
 pub mod Loan
 pub mod Machine
+pub mod Moving
 pub mod PeekMut
+pub mod Places
 pub mod Popping
 pub mod Reading
+pub mod Room
 pub mod Run
 pub mod Searching
 pub mod Sifting
+pub mod Sizes
 pub mod State
 pub mod Tail
 pub mod TwoArities

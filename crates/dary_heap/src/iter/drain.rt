@@ -3,7 +3,7 @@ ghost use Rattle.std.specs.Prelude.{◌≡◌, ◌^◌, ◌<◌, length, IfSome,
 ghost use Rattle.std.specs.Borrow.{sem};
 ghost use Rattle.std.specs.Iterator.{YieldsFirst, YieldsLast, UpTo, item_count};
 ghost use Rattle.std.specs.Iterator.Runs.{YieldsInOrder, YieldsInReverse};
-ghost use Rattle.std.specs.Iterator.SizeHint.{IsWithinCount};
+ghost use Rattle.dary_heap.specs.Sizes.{HintsExactly};
 
 use super::IntoIter;
 use crate::heap::DaryHeap;
@@ -65,9 +65,7 @@ impl<T: Drop> Iterator for Drain<'_, T> {
     }
 
     fn size_hint(&self) -> (usize, Option<usize>)
-        ensures lower { IsWithinCount result.0 (item_count drain_rest self.now) }
-        ensures upper { IfSome result.1 (UpTo (item_count drain_rest self.now)) }
-        ensures exact { (result.0 ≡ length (drain_rest self.now)) × (result.1 ≡ Some (length (drain_rest self.now))) }
+        ensures { HintsExactly (drain_rest self.now) result }
     {
         self.rest.size_hint()
     }

@@ -1,7 +1,7 @@
 //! The iterator that pops the items of a heap and leaves it empty.
 ghost use Rattle.std.specs.Prelude.{◌≡◌, ◌^◌, ◌<◌, [], length, Some, IfSome};
 ghost use Rattle.std.specs.Iterator.{UpTo, item_count};
-ghost use Rattle.std.specs.Iterator.SizeHint.{IsWithinCount};
+ghost use Rattle.dary_heap.specs.Sizes.{HintsExactly};
 ghost use Rattle.dary_heap.specs.Bounds.{RisesWithin, pops_bound};
 ghost use Rattle.dary_heap.specs.HeapOrder.{IsHeapOrdered};
 ghost use Rattle.dary_heap.specs.Popping.{GivesDescending};
@@ -86,9 +86,7 @@ impl<T: Ord + Drop, const D: usize> Iterator for DrainSorted<'_, T, D> {
     }
 
     fn size_hint(&self) -> (usize, Option<usize>)
-        ensures lower { IsWithinCount result.0 (item_count (λ it. (drained_heap it).items) self.now) }
-        ensures upper { IfSome result.1 (UpTo (item_count (λ it. (drained_heap it).items) self.now)) }
-        ensures exact { (result.0 ≡ length (drained_heap self.now).items) × (result.1 ≡ Some (length (drained_heap self.now).items)) }
+        ensures { HintsExactly (drained_heap self.now).items result }
     {
         let len = self.len();
         (len, Some(len))

@@ -1,7 +1,7 @@
 //! The iterator that pops the items of a heap.
 ghost use Rattle.std.specs.Prelude.{◌≡◌, ◌^◌, ◌<◌, length, Some, Contains, IfOk, IfSome};
 ghost use Rattle.std.specs.Iterator.{UpTo, item_count};
-ghost use Rattle.std.specs.Iterator.SizeHint.{IsWithinCount};
+ghost use Rattle.dary_heap.specs.Sizes.{HintsExactly};
 ghost use Rattle.dary_heap.specs.Bounds.{RisesWithin, build_bound};
 ghost use Rattle.dary_heap.specs.Contents.{Contents};
 ghost use Rattle.dary_heap.specs.HeapOrder.{IsHeapOrdered};
@@ -85,9 +85,7 @@ impl<T: Ord + Drop, const D: usize> Iterator for IntoIterSorted<T, D> {
     }
 
     fn size_hint(&self) -> (usize, Option<usize>)
-        ensures lower { IsWithinCount result.0 (item_count (λ heap. heap.items) self.now) }
-        ensures upper { IfSome result.1 (UpTo (item_count (λ heap. heap.items) self.now)) }
-        ensures exact { (result.0 ≡ length self.now.items) × (result.1 ≡ Some (length self.now.items)) }
+        ensures { HintsExactly self.now.items result }
     {
         let len = self.len();
         (len, Some(len))

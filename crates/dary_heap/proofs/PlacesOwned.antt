@@ -1,0 +1,159 @@
+-- What `Places` and `Others` own, at any item type: two words, and the row of places that they lead to. Assumes `Logic`.
+--     two_words, words     the two words as a machine value
+--     Whole, Hollow, row_of     the types of the two, and what both own
+--     size_fits, offset_fits     an offset into a row does not overflow
+--     row_out, row_found, row_in     a row is taken from its two words, at a block or at any pointer, and put back
+--     hollow_opened, hollow_closed     a `&mut Others` is opened and closed
+--     lent_as_row, row_back     a `&mut [T]` is opened as a `Places`, and closed at the one that comes back
+use Prim.Native.Nat.{ℕ, ◌*◌, ◌<◌, ◌^◌}
+use mathlib.Core.Bool.{Bool, true, false}
+use mathlib.Core.List.{List, [], ◌∷◌}
+use mathlib.Core.Path.{◌≡◌, refl, sym, ap, subst, ◌∙◌}
+use native.Mathlib.Omega.{arith}
+use lib.ListN.{length, get_or, set, length-set, length-replicate, get_or-replicate}
+use lib.Seq.{set-set, set_comm, set-get_or, get_or-set_other}
+use seplogic.Ra.Ura.{Ura}
+use base.Fml.{Fml, Lft, GName, Share, fsep, flft, fobs, fauth, fbor, fobor}
+use base.Fraction.{full_share}
+use base.Logic.{ent, never}
+use base.Stored.{Gv}
+use mir.Syntax.{w64}
+use mir.Val.{Val, WT, vint, vstruct, vcons, vnil}
+use types.Kit.{Goal, Soaks, Step, step, Seq, Item, ‵, ◌$◌, ◌∵◌, !, qed, drop, move, use1, fsplit, fjoin, flt_l, flt_i, rewrite, done}
+use types.Logic.{Logic, sem}
+use types.SemTy.{Body}
+use denote.Index.{row, opens_slice, closes_slice}
+use denote.Laws.{Is, Tells, shows}
+use denote.Lend.{Held}
+use denote.Memory.{cell_at, mem}
+use denote.Plain.{uint_vals, uint_Tells}
+use denote.RattleType.{RattleType}
+use denote.RawPtr.{Ptr, block_ptr, null_ptr, ptr_val, in_a_block, rawptr_vals, rawptr_Tells}
+use denote.Shadow.{pure_i}
+use denote.Slice.{Room, coded_holeys, heres}
+use denote.Steps.{facts, opens, closes}
+use denote.Struct.Laws.{RawPtr-laws, usize-laws}
+use denote.Struct.Owning.{shape}
+use denote.Struct.OwningLaws.{Tells-lowered}
+use denote.Struct.Struct.{Struct, Struct-Tells}
+use Rattle.std.specs.Prelude.{◌≢◌}
+use Rattle.core.proofs.mem.Param.{El, R, el_x}
+use Rattle.core.proofs.ptr.Rows.{times_below, one_below}
+use Rattle.core.proofs.slots.Places.{sz, of_row, to_row}
+use Rattle.core.specs.Mem.Slots.Ownership.{owned, slots}
+use Rattle.dary_heap.specs.Hole.{IsSameSlice}
+use Rattle.dary_heap.specs.Places.{all_filled, filled_but}
+use Rattle.dary_heap.specs.contracts.hole.places.Others as O
+use Rattle.dary_heap.specs.contracts.hole.places.Places as P
+use Rattle.dary_heap.specs.declared.hole.places.Others.{Others}
+use Rattle.dary_heap.specs.declared.hole.places.Places.{Places}
+
+-- a pointer and a length
+abbrev pub two_words : Ptr → ℕ → Val
+two_words p n = vstruct (vcons (ptr_val p) (vcons (vint w64 n) vnil))
+
+abbrev pub words : Ptr → ℕ → List Val
+words p n = two_words p n ∷ []
+
+pub words_fit : (b o n : ℕ) → n < 2 ^ 64 → WT (two_words (block_ptr b o) n)
+words_fit b o n fits = (tt, (record { fits = fits }, tt))
+
+-- the empty place is filled, or another place becomes the empty one
+pub filled_again : (n at : ℕ) → at < n → set (filled_but n at) at true ≡ all_filled n
+filled_again n at within = set-set (all_filled n) at false true ∙ ap (set (all_filled n) at) (sym (get_or-replicate n at true false within)) ∙ set-get_or (all_filled n) at false
+
+pub filled_but_other : (n at place : ℕ) → at < n → place ≢ at → set (set (filled_but n at) place false) at true ≡ filled_but n place
+filled_but_other n at place within other = set_comm (filled_but n at) place at false true other ∙ ap (λ (fs : List Bool). set fs place false) (filled_again n at within)
+
+pub holds_other : (n at place : ℕ) → place < n → place ≢ at → get_or (filled_but n at) place false ≡ true
+holds_other n at place within other = get_or-set_other (all_filled n) at place false false other ∙ get_or-replicate n place true false within
+
+pub many_marks : (n at : ℕ) → length (filled_but n at) ≡ n
+many_marks n at = length-set (all_filled n) at false ∙ length-replicate n true
+
+module _ (E : El) where
+  abbrev pub Whole : RattleType
+  Whole = P.the_row (R E)
+
+  abbrev pub Hollow : RattleType
+  Hollow = O.the_row (R E)
+
+  abbrev pub Pair : RattleType
+  Pair = Struct (shape (P.the_type (R E)))
+
+  -- both own this, at their places
+  abbrev pub row_of : Ptr → ℕ → List (el_x E) → List Bool → List Val → Fml
+  row_of p n xs fs vs = fsep (Pair.own_val (p, (n, tt)) vs) (owned (R E) p n xs fs)
+
+  abbrev pub full_row : (b o : ℕ) (xs : List (el_x E)) → Room (R E) (length xs) → Places (el_x E)
+  full_row b o xs room = record { ptr = block_ptr b o; len = length xs; items = xs; ok = refl; small = room.0 }
+
+  pub whole_tells : Tells Whole (Is Whole) (λ d. words d.ptr d.len)
+  whole_tells = Tells-lowered (P.the_type (R E)) (RawPtr-laws, (usize-laws, tt))
+
+  pub hollow_tells : Tells Hollow (Is Hollow) (λ d. words d.ptr d.len)
+  hollow_tells = Tells-lowered (O.the_type (R E)) (RawPtr-laws, (usize-laws, tt))
+
+  pub size_fits : (n i : ℕ) → i < n → Room (R E) n → sz E < 2 ^ 64
+  size_fits n i within room = let fits : sz E < 2 ^ 63 = one_below n (sz E) (2 ^ 63) (omega arith) room.1 in omega arith
+
+  pub offset_fits : (n i : ℕ) → i < n → Room (R E) n → i * sz E < 2 ^ 64
+  offset_fits n i within room = let fits : i * sz E < 2 ^ 63 = times_below i n (sz E) (2 ^ 63) (omega arith) room.1 in omega arith
+
+module _ (E : El) {M : Type 1} {𝓤 : Ura M} {𝓛 : Logic 𝓤} {K : Type 0} {Γ : List (Item 𝓤)} {G : Goal 𝓤 𝓛.H} where
+  pub row_out : K → (b o n : ℕ) (xs : List (el_x E)) (fs : List Bool) (vs : List Val)
+      → (vs ≡ words (block_ptr b o) n → Room (R E) n → Seq K 𝓛 (‵ (slots (R E) (block_ptr b o) xs fs) ∷ Γ) G)
+      → Seq K 𝓛 (‵ (row_of E (block_ptr b o) n xs fs vs) ∷ Γ) G
+  row_out t b o n xs fs vs k =
+      fsplit t $ facts t (Pair E) (Is (Pair E)) (shows 𝓛 (Pair E)) (block_ptr b o, (n, tt)) vs (λ is. fsplit t $ flt_l t (λ bytes.
+      k (Struct-Tells (shape (P.the_type (R E))) (rawptr_vals, (uint_vals w64, tt)) (rawptr_Tells, (uint_Tells w64, tt)) (block_ptr b o, (n, tt)) vs is) (is.1.1.1.0.1, bytes)))
+
+  -- nothing is owned at null
+  pub row_found : K → (p : Ptr) (n : ℕ) (xs : List (el_x E)) (fs : List Bool) (vs : List Val)
+      → ((b o : ℕ) → p ≡ block_ptr b o → vs ≡ words (block_ptr b o) n → Room (R E) n → Seq K 𝓛 (‵ (slots (R E) (block_ptr b o) xs fs) ∷ Γ) G)
+      → Seq K 𝓛 (‵ (row_of E p n xs fs vs) ∷ Γ) G
+  row_found t p n xs fs vs k =
+      let nowhere : ent 𝓤 (sem 𝓛 (row_of E null_ptr n xs fs vs)) (never 𝓤) = qed 𝓛 (‵ (row_of E null_ptr n xs fs vs) ∷ []) ∵ fsplit ! $ drop ! $ fsplit ! $ drop ! $ done ! in
+      in_a_block t p (λ r. row_of E r n xs fs vs) nowhere (λ b o is. row_out t b o n xs fs vs (k b o is))
+
+  pub row_in : K → (b o n : ℕ) (xs : List (el_x E)) (fs : List Bool) (room : Room (R E) n)
+      → Step K 𝓛 (‵ (row_of E (block_ptr b o) n xs fs (words (block_ptr b o) n)) ∷ Γ) G (‵ (slots (R E) (block_ptr b o) xs fs) ∷ Γ) G
+  row_in t b o n xs fs room = step (λ s. flt_i t _ _ room.1 $ fjoin t $
+      pure_i t ((Pair E).own_val (block_ptr b o, (n, tt)) (words (block_ptr b o) n)) (λ vss. (tt, (tt, ((tt, tt), tt))))
+      ((rawptr_vals (block_ptr b o), (uint_vals w64 n, tt)), (refl, (refl, ((refl, room.0), tt)))) $ fjoin t $ s)
+
+module _ (E : El) {M : Type 1} {𝓤 : Ura M} {𝓛 : Logic 𝓤} {K : Type 0} {Γ : List (Item 𝓤)} {G : Goal 𝓤 𝓛.H} where
+  -- a `&mut` to an `Others`: the row, its two words, and the open borrow in three entries
+  pub hollow_opened : K → Soaks G → {κ : Lft} {q : Share} {γ : GName} (h : Others (el_x E)) (rb ro : ℕ)
+      → ((b o : ℕ) → h.ptr ≡ block_ptr b o → Room (R E) h.len
+      → Seq K 𝓛 (‵ (slots (R E) (block_ptr b o) h.items (filled_but h.len h.at)) ∷ ‵ (cell_at full_share (Hollow E).mir (words (block_ptr b o) h.len) rb ro) ∷ ‵ (fobor κ q (Body (mem (Hollow E)) rb ro γ)) ∷ ‵ (fobs γ ((Hollow E).coded.code h)) ∷ ‵ (fauth γ ((Hollow E).coded.code h)) ∷ Γ) G)
+      → Seq K 𝓛 (‵ (fobs γ ((Hollow E).coded.code h)) ∷ ‵ (fbor κ (Body (mem (Hollow E)) rb ro γ)) ∷ ‵ (flft κ q) ∷ Γ) G
+  hollow_opened t z h rb ro k =
+      opens t z (Hollow E) {h = h} rb ro (λ us. move t (1 ∷ []) $ row_found E t h.ptr h.len h.items (filled_but h.len h.at) us (λ b o at is room.
+      rewrite t 1 (λ (ws : List Val). ‵ (cell_at full_share (Hollow E).mir ws rb ro)) is refl $ k b o at room))
+
+  pub hollow_closed : K → Soaks G → {κ : Lft} {q : Share} {u v : Gv} {γ : GName} (h : Others (el_x E)) (b o rb ro : ℕ) → block_ptr b o ≡ h.ptr → Room (R E) h.len
+      → Step K 𝓛 (‵ (fobs γ ((Hollow E).coded.code h)) ∷ ‵ (fbor κ (Body (mem (Hollow E)) rb ro γ)) ∷ ‵ (flft κ q) ∷ Γ) G
+      (‵ (slots (R E) (block_ptr b o) h.items (filled_but h.len h.at)) ∷ ‵ (cell_at full_share (Hollow E).mir (words (block_ptr b o) h.len) rb ro) ∷ ‵ (fobor κ q (Body (mem (Hollow E)) rb ro γ)) ∷ ‵ (fobs γ u) ∷ ‵ (fauth γ v) ∷ Γ) G
+  hollow_closed t z h b o rb ro is room = step (λ s. row_in E t b o h.len h.items (filled_but h.len h.at) room $
+      rewrite t 0 (λ (p : Ptr). ‵ (row_of E p h.len h.items (filled_but h.len h.at) (words (block_ptr b o) h.len))) is refl $
+      move t (1 ∷ 0 ∷ []) $ closes t z (Hollow E) h (words (block_ptr b o) h.len) rb ro $ s)
+
+  pub lent_as_row : K → Soaks G → (b o : ℕ) (xs : List (el_x E)) (room : Room (R E) (length xs)) {κ : Lft} {q : Share} {γ : GName}
+      → Step K 𝓛 (‵ ((Whole E).own_val (full_row E b o xs room) (words (block_ptr b o) (length xs))) ∷ ‵ (fobor κ q (Held (R E) (length xs) b o γ)) ∷ ‵ (fobs γ ((coded_holeys (R E)).code (heres (R E) xs))) ∷ ‵ (fauth γ ((coded_holeys (R E)).code (heres (R E) xs))) ∷ Γ) G
+      (‵ (fobs γ ((coded_holeys (R E)).code (heres (R E) xs))) ∷ ‵ (fbor κ (Held (R E) (length xs) b o γ)) ∷ ‵ (flft κ q) ∷ Γ) G
+  lent_as_row t z b o xs room = step (λ s. opens_slice t z (R E) xs b o $
+      use1 𝓛 (‵ (slots (R E) (block_ptr b o) xs (all_filled (length xs)))) (of_row E 𝓛 b xs o) $ row_in E t b o (length xs) xs (all_filled (length xs)) room $ s)
+
+  pub row_back : K → Soaks G → (b o : ℕ) (xs : List (el_x E)) (room : Room (R E) (length xs)) {κ : Lft} {q : Share} {γ : GName} (back : Places (el_x E)) (vs : List Val)
+      → IsSameSlice (full_row E b o xs room) back
+      → (vs ≡ words (block_ptr b o) back.len → back.len < 2 ^ 64
+      → Seq K 𝓛 (‵ (fobs γ ((coded_holeys (R E)).code (heres (R E) back.items))) ∷ ‵ (fbor κ (Held (R E) (length back.items) b o γ)) ∷ ‵ (flft κ q) ∷ Γ) G)
+      → Seq K 𝓛 (‵ ((Whole E).own_val back vs) ∷ ‵ (fobor κ q (Held (R E) (length xs) b o γ)) ∷ ‵ (fobs γ ((coded_holeys (R E)).code (heres (R E) xs))) ∷ ‵ (fauth γ ((coded_holeys (R E)).code (heres (R E) xs))) ∷ Γ) G
+  row_back t z b o xs room back vs same k =
+      let n : ℕ = back.len in let fs : List Bool = all_filled n in
+      let many : length fs ≡ n = length-replicate n true in
+      rewrite t 0 (λ (p : Ptr). ‵ (row_of E p n back.items fs vs)) same.slice refl $ row_out E t b o n back.items fs vs (λ is room'.
+      use1 𝓛 (‵ (row (R E) full_share back.items b o)) (to_row E 𝓛 b back.items fs o (many ∙ back.ok)
+      (λ i below. get_or-replicate n i true _ (subst (λ (m : ℕ). i < m) many below))) $
+      closes_slice t z (R E) xs back.items same.len b o $ k is room'.0)

@@ -1,0 +1,140 @@
+//! The choice of the greatest among the siblings of a row, whole or cut off by the slice's end.
+ghost use Rattle.std.specs.Prelude.{◌≡◌, ◌+◌, ◌-◌, ◌*◌, ◌<◌, ◌≤◌, ℕ, length, min, if◌then◌else◌};
+ghost use Rattle.std.specs.Bool.{OnTrue, OnFalse};
+ghost use Rattle.dary_heap.specs.HeapOrder.{arity, IsLastGreatestChild};
+ghost use Rattle.dary_heap.specs.Moving.{Chooses, IsBelow};
+ghost use Rattle.dary_heap.specs.Sifting.{IsLastGreatest};
+
+use super::Judge;
+use crate::hole::Hole;
+
+/// Returns the second if `is_second`, else the first, with no branch.
+#[inline(always)]
+fn pick(is_second: bool, first: usize, second: usize) -> usize
+    ensures { result ≡ (if is_second then second else first) }
+{
+    let mask = is_second as usize * usize::MAX;
+    (second & mask) | (first & !mask)
+}
+
+/// Returns the place of the greater of two last greatest items, of rows that stand beside one another:
+/// the later one if the two are equal.
+#[inline(always)]
+fn greater_of<T, J: Judge<T>>(hole: &Hole<T>, a: usize, b: usize, judge: &mut J) -> usize
+    requires first { IsBelow hole.now a (a + 1) }
+    requires second { IsBelow hole.now b (b + 1) }
+    ensures greatest { (first mid end : ℕ) → IsLastGreatest J.order first mid a hole.now.items → IsLastGreatest J.order mid end b hole.now.items → IsLastGreatest J.order first end result hole.now.items }
+    ensures counted { J.count judge.new ≡ J.count judge.old + 1 }
+{
+    pick(judge.at_most(hole.get(a), hole.get(b)), a, b)
+}
+
+/// Returns the place of the last greatest of two items.
+#[inline(always)]
+fn greatest_of_two<T, J: Judge<T>>(hole: &Hole<T>, first: usize, judge: &mut J) -> usize
+    requires { IsBelow hole.now first (first + 2) }
+    ensures { Chooses J.order first (first + 2) result hole.now.items (J.count judge.old) (J.count judge.new) }
+{
+    first + judge.at_most(hole.get(first), hole.get(first + 1)) as usize
+}
+
+/// Returns the place of the last greatest of three items.
+#[inline(always)]
+fn greatest_of_three<T, J: Judge<T>>(hole: &Hole<T>, first: usize, judge: &mut J) -> usize
+    requires { IsBelow hole.now first (first + 3) }
+    ensures { Chooses J.order first (first + 3) result hole.now.items (J.count judge.old) (J.count judge.new) }
+{
+    let best = greatest_of_two(hole, first, judge);
+    greater_of(hole, best, first + 2, judge)
+}
+
+/// Returns the place of the last greatest of four items.
+#[inline(always)]
+fn greatest_of_four<T, J: Judge<T>>(hole: &Hole<T>, first: usize, judge: &mut J) -> usize
+    requires { IsBelow hole.now first (first + 4) }
+    ensures { Chooses J.order first (first + 4) result hole.now.items (J.count judge.old) (J.count judge.new) }
+{
+    let left = greatest_of_two(hole, first, judge);
+    let right = greatest_of_two(hole, first + 2, judge);
+    greater_of(hole, left, right, judge)
+}
+
+/// Returns the place of the last greatest item from `first` up to `end`.
+#[inline(always)]
+fn last_greatest<T, J: Judge<T>>(hole: &Hole<T>, first: usize, end: usize, judge: &mut J) -> usize
+    requires { IsBelow hole.now first end }
+    ensures { Chooses J.order first end result hole.now.items (J.count judge.old) (J.count judge.new) }
+{
+    let mut best = first;
+    for place in first + 1..end {
+        best = greater_of(hole, best, place, judge);
+    }
+    best
+}
+
+/// Returns the place of the last greatest item of a whole row.
+#[inline(always)]
+fn greatest_of_whole<T, J: Judge<T>, const D: usize>(
+    hole: &Hole<T>,
+    first: usize,
+    judge: &mut J,
+) -> usize
+    requires { IsBelow hole.now first (first + arity D) }
+    ensures { Chooses J.order first (first + arity D) result hole.now.items (J.count judge.old) (J.count judge.new) }
+{
+    if D == 2 {
+        return greatest_of_two(hole, first, judge);
+    }
+    if D == 3 {
+        return greatest_of_three(hole, first, judge);
+    }
+    if D == 4 {
+        return greatest_of_four(hole, first, judge);
+    }
+    last_greatest(hole, first, first + D.max(1), judge)
+}
+
+/// Returns the place of the last greatest item of a row that is cut off at `end`.
+#[inline(always)]
+fn greatest_of_cut<T, J: Judge<T>, const D: usize>(
+    hole: &Hole<T>,
+    first: usize,
+    end: usize,
+    judge: &mut J,
+) -> usize
+    requires below { IsBelow hole.now first end }
+    requires short { end < first + arity D }
+    ensures { Chooses J.order first end result hole.now.items (J.count judge.old) (J.count judge.new) }
+{
+    if D <= 2 {
+        return first;
+    }
+    if end - first == 2 {
+        return greatest_of_two(hole, first, judge);
+    }
+    if end - first == 3 {
+        return greatest_of_three(hole, first, judge);
+    }
+    last_greatest(hole, first, end, judge)
+}
+
+/// Returns the place of the last greatest of siblings below the hole. They begin at `first`; either the
+/// row is whole, or the slice's end cuts it off.
+#[inline(always)]
+pub(super) fn greatest_sibling<T, J: Judge<T>, const D: usize>(
+    hole: &Hole<T>,
+    first: usize,
+    is_whole: bool,
+    judge: &mut J,
+) -> usize
+    requires some { IsBelow hole.now first (length hole.now.items) }
+    requires whole { OnTrue is_whole (first + arity D ≤ length hole.now.items) }
+    requires cut { OnFalse is_whole (length hole.now.items < first + arity D) }
+    ensures greatest { (place : ℕ) → first ≡ place * arity D + 1 → IsLastGreatestChild J.order D place result hole.now.items }
+    ensures counted { J.count judge.new + 1 ≡ J.count judge.old + min (arity D) (length hole.now.items - first) }
+{
+    if is_whole {
+        return greatest_of_whole::<T, J, D>(hole, first, judge);
+    }
+    greatest_of_cut::<T, J, D>(hole, first, hole.len(), judge)
+}
