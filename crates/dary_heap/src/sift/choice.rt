@@ -1,4 +1,9 @@
 //! The choice of the greatest among the siblings of a row, whole or cut off by the slice's end.
+//!
+//! A whole row has two forms of it, with the same contract, result and comparisons. One computes the place
+//! without a branch, so the load of the next row waits for this one. The other branches: the processor
+//! guesses, and loads the next row before the choice is known. A wrong guess costs some 20 cycles, and a
+//! row that comes from main memory some 300.
 ghost use Rattle.std.specs.Prelude.{◌≡◌, ◌+◌, ◌-◌, ◌*◌, ◌<◌, ◌≤◌, ℕ, length, min, if◌then◌else◌};
 ghost use Rattle.std.specs.Bool.{OnTrue, OnFalse};
 ghost use Rattle.dary_heap.specs.HeapOrder.{arity, IsLastGreatestChild};
@@ -20,13 +25,22 @@ fn pick(is_second: bool, first: usize, second: usize) -> usize
 /// Returns the place of the greater of two last greatest items, of rows that stand beside one another:
 /// the later one if the two are equal.
 #[inline(always)]
-fn greater_of<T, J: Judge<T>>(hole: &Hole<T>, a: usize, b: usize, judge: &mut J) -> usize
+fn greater_of<T, J: Judge<T>, const GUESSES: bool>(
+    hole: &Hole<T>,
+    a: usize,
+    b: usize,
+    judge: &mut J,
+) -> usize
     requires first { IsBelow hole.now a (a + 1) }
     requires second { IsBelow hole.now b (b + 1) }
     ensures greatest { (first mid end : ℕ) → IsLastGreatest J.order first mid a hole.now.items → IsLastGreatest J.order mid end b hole.now.items → IsLastGreatest J.order first end result hole.now.items }
     ensures counted { J.count judge.new ≡ J.count judge.old + 1 }
 {
-    pick(judge.at_most(hole.get(a), hole.get(b)), a, b)
+    let is_second = judge.at_most(hole.get(a), hole.get(b));
+    if GUESSES {
+        return if is_second { b } else { a };
+    }
+    pick(is_second, a, b)
 }
 
 /// Returns the place of the last greatest of two items.
@@ -45,7 +59,7 @@ fn greatest_of_three<T, J: Judge<T>>(hole: &Hole<T>, first: usize, judge: &mut J
     ensures { Chooses J.order first (first + 3) result hole.now.items (J.count judge.old) (J.count judge.new) }
 {
     let best = greatest_of_two(hole, first, judge);
-    greater_of(hole, best, first + 2, judge)
+    greater_of::<T, J, false>(hole, best, first + 2, judge)
 }
 
 /// Returns the place of the last greatest of four items.
@@ -56,25 +70,41 @@ fn greatest_of_four<T, J: Judge<T>>(hole: &Hole<T>, first: usize, judge: &mut J)
 {
     let left = greatest_of_two(hole, first, judge);
     let right = greatest_of_two(hole, first + 2, judge);
-    greater_of(hole, left, right, judge)
+    greater_of::<T, J, false>(hole, left, right, judge)
+}
+
+/// Returns the place of the last greatest of eight items.
+#[inline(always)]
+fn greatest_of_eight<T, J: Judge<T>>(hole: &Hole<T>, first: usize, judge: &mut J) -> usize
+    requires { IsBelow hole.now first (first + 8) }
+    ensures { Chooses J.order first (first + 8) result hole.now.items (J.count judge.old) (J.count judge.new) }
+{
+    let left = greatest_of_four(hole, first, judge);
+    let right = greatest_of_four(hole, first + 4, judge);
+    greater_of::<T, J, false>(hole, left, right, judge)
 }
 
 /// Returns the place of the last greatest item from `first` up to `end`.
 #[inline(always)]
-fn last_greatest<T, J: Judge<T>>(hole: &Hole<T>, first: usize, end: usize, judge: &mut J) -> usize
+fn last_greatest<T, J: Judge<T>, const GUESSES: bool>(
+    hole: &Hole<T>,
+    first: usize,
+    end: usize,
+    judge: &mut J,
+) -> usize
     requires { IsBelow hole.now first end }
     ensures { Chooses J.order first end result hole.now.items (J.count judge.old) (J.count judge.new) }
 {
     let mut best = first;
     for place in first + 1..end {
-        best = greater_of(hole, best, place, judge);
+        best = greater_of::<T, J, GUESSES>(hole, best, place, judge);
     }
     best
 }
 
 /// Returns the place of the last greatest item of a whole row.
 #[inline(always)]
-fn greatest_of_whole<T, J: Judge<T>, const D: usize>(
+fn greatest_of_whole<T, J: Judge<T>, const D: usize, const GUESSES: bool>(
     hole: &Hole<T>,
     first: usize,
     judge: &mut J,
@@ -82,6 +112,9 @@ fn greatest_of_whole<T, J: Judge<T>, const D: usize>(
     requires { IsBelow hole.now first (first + arity D) }
     ensures { Chooses J.order first (first + arity D) result hole.now.items (J.count judge.old) (J.count judge.new) }
 {
+    if GUESSES {
+        return last_greatest::<T, J, true>(hole, first, first + D.max(1), judge);
+    }
     if D == 2 {
         return greatest_of_two(hole, first, judge);
     }
@@ -91,7 +124,10 @@ fn greatest_of_whole<T, J: Judge<T>, const D: usize>(
     if D == 4 {
         return greatest_of_four(hole, first, judge);
     }
-    last_greatest(hole, first, first + D.max(1), judge)
+    if D == 8 {
+        return greatest_of_eight(hole, first, judge);
+    }
+    last_greatest::<T, J, false>(hole, first, first + D.max(1), judge)
 }
 
 /// Returns the place of the last greatest item of a row that is cut off at `end`.
@@ -115,13 +151,13 @@ fn greatest_of_cut<T, J: Judge<T>, const D: usize>(
     if end - first == 3 {
         return greatest_of_three(hole, first, judge);
     }
-    last_greatest(hole, first, end, judge)
+    last_greatest::<T, J, false>(hole, first, end, judge)
 }
 
 /// Returns the place of the last greatest of siblings below the hole. They begin at `first`; either the
 /// row is whole, or the slice's end cuts it off.
 #[inline(always)]
-pub(super) fn greatest_sibling<T, J: Judge<T>, const D: usize>(
+pub(super) fn greatest_sibling<T, J: Judge<T>, const D: usize, const GUESSES: bool>(
     hole: &Hole<T>,
     first: usize,
     is_whole: bool,
@@ -134,7 +170,7 @@ pub(super) fn greatest_sibling<T, J: Judge<T>, const D: usize>(
     ensures counted { J.count judge.new + 1 ≡ J.count judge.old + min (arity D) (length hole.now.items - first) }
 {
     if is_whole {
-        return greatest_of_whole::<T, J, D>(hole, first, judge);
+        return greatest_of_whole::<T, J, D, GUESSES>(hole, first, judge);
     }
     greatest_of_cut::<T, J, D>(hole, first, hole.len(), judge)
 }
