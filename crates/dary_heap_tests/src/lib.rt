@@ -1,35 +1,18 @@
-//! Tests of the priority queue: worked examples and outside vectors.
+//! Callers that are proved, since their proofs show that the contracts of the priority queue serve a caller:
+//! of each function that has a precondition one call at a concrete type (`preconditions`, `uses`), a judge of
+//! the caller's own (`judges`), and a program that is proved from contracts alone (`roads`).
+//!
+//! All other tests are run and not proved, and stand in the folder `trials`: of them a proof says only that
+//! they are safe.
 //!
 //! Each expected value comes from the description of the queue, or from the Rust crate `dary_heap`,
-//! and never from this crate's own answers. Random runs and extremes stand in the folder `trials`.
+//! and never from this crate's own answers.
 #![tactic(auto)]
 
 #[cfg(test)]
-mod builds;
-#[cfg(test)]
-mod changing;
-#[cfg(test)]
-mod commands;
-#[cfg(test)]
-mod depths;
-#[cfg(test)]
-mod drops;
-#[cfg(test)]
-mod filters;
-#[cfg(test)]
-mod joins;
-#[cfg(test)]
 mod judges;
 #[cfg(test)]
-mod paths;
-#[cfg(test)]
-mod queues;
-#[cfg(test)]
-mod repairs;
+mod preconditions;
 pub mod roads;
 #[cfg(test)]
-mod rooms;
-#[cfg(test)]
-mod sifts;
-#[cfg(test)]
-mod types;
+mod uses;

@@ -11,9 +11,6 @@ use dary_heap::DaryHeap;
 use std::alloc::{AllocError, Global};
 use std::cmp::Reverse;
 
-#[cfg(test)]
-mod tests;
-
 /// The `k` greatest items of a stream, or all of them where they are fewer, as a heap whose least item
 /// comes out first.
 ///

@@ -7,9 +7,6 @@ ghost use Rattle.dary_heap_uses.specs.Keeping.{KeepsGreatest};
 use dary_heap::DaryHeap;
 use std::alloc::{AllocError, Global};
 
-#[cfg(test)]
-mod tests;
-
 /// The items of a heap in descending order. Equal items come in any order.
 ///
 /// It is refused only for want of memory, and then all items are given up.

@@ -11,9 +11,6 @@ use std::alloc::{AllocError, Global};
 use std::cmp::Reverse;
 use std::marker::Model;
 
-#[cfg(test)]
-mod tests;
-
 /// A job that waits. The greater one is to come first.
 #[derive(Drop)]
 #[derive_where(PartialEq, Eq, PartialOrd, Ord)]

@@ -189,6 +189,3 @@ fn push_all(waiting: &mut TernaryHeap<Reverse<Event>>, events: &[Event])
         waiting.push(Reverse(*event)).unwrap();
     }
 }
-
-#[cfg(test)]
-mod tests;

@@ -120,6 +120,3 @@ impl TimerQueue {
         Ok(())
     }
 }
-
-#[cfg(test)]
-mod tests;

@@ -13,8 +13,6 @@ ghost use Rattle.dheap.specs.declared.serve.line.Line.{Line};
 
 pub(crate) mod fault;
 mod line;
-#[cfg(test)]
-mod tests;
 
 use dary_heap::DaryHeap;
 use dary_heap::run::{Command, Reply, run};

@@ -1,4 +1,6 @@
-use super::*;
+//! Tests of the simulation: balls that bounce.
+use dary_heap_uses::simulation::{Event, Handler, Simulation};
+use std::alloc::Global;
 use std::test::Fail;
 
 /// Balls that bounce. The kind of an event is the height of a bounce: the next one comes as many moments

@@ -1,5 +1,5 @@
 //! Tests of the scheduler: jobs are names.
-use super::*;
+use dary_heap_uses::scheduler::Scheduler;
 use std::process::Abort;
 use std::test::Fail;
 

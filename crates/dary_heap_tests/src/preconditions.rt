@@ -1,0 +1,163 @@
+//! Calls of the public functions that have a precondition, at concrete types. That of `shortest_path` is in
+//! `roads`.
+use dary_heap::run::{Command, Reply, run};
+use dary_heap::sift::{Tally, mend_with};
+use dary_heap::{BinaryHeap, OctonaryHeap, TernaryHeap};
+use std::alloc::Global;
+use std::process::Abort;
+use std::test::Fail;
+
+// What `into_vec` gives is in heap order at the same arity, as `from_raw_vec` needs it.
+#[test]
+fn a_heap_is_its_vector_and_back(rt: HostRuntime) -> Result<(), Fail> {
+    let items = BinaryHeap::from([1, 2, 3].to_vec(rt.alloc())?).into_vec();
+    assert_eq!(rt; items.as_slice(), [3, 2, 1].as_slice());
+    let mut heap = BinaryHeap::from_raw_vec(items);
+    for answer in [Some(3), Some(2), Some(1), None] {
+        assert_eq!(rt; heap.pop(), answer);
+    }
+    Ok(())
+}
+
+// The iterator ends.
+#[test]
+fn a_heap_is_collected_from_an_iterator(rt: HostRuntime) -> Result<(), Fail> {
+    let heap: BinaryHeap<i32> = (1..4).collect(rt.alloc())?;
+    assert_eq!(rt; heap.as_slice(), [3, 2, 1].as_slice());
+    let heap: BinaryHeap<i32> = (0..0).collect(rt.alloc())?;
+    assert!(rt; heap.is_empty());
+    Ok(())
+}
+
+// A clone of a number is the same number.
+#[test]
+fn a_clone_is_a_heap_of_its_own(rt: HostRuntime) -> Result<(), Fail> {
+    let heap = BinaryHeap::from([1, 2, 3, 4, 5].to_vec(rt.alloc())?);
+    let mut copy = heap.clone()?;
+    assert_eq!(rt; copy.as_slice(), [5, 4, 3, 1, 2].as_slice());
+    assert_eq!(rt; copy.pop(), Some(5));
+    assert_eq!(rt; heap.as_slice(), [5, 4, 3, 1, 2].as_slice());
+    assert!(rt; BinaryHeap::<i32>::new(rt.alloc()).clone()?.is_empty());
+    Ok(())
+}
+
+fn is_even(item: &i32) -> bool {
+    *item & 1 == 0
+}
+
+// A predicate without state, that may be called on any item.
+#[test]
+fn a_pop_comes_where_the_predicate_answers_yes(rt: HostRuntime) -> Result<(), Fail> {
+    let mut heap = BinaryHeap::from([1, 2].to_vec(rt.alloc())?);
+    assert_eq!(rt; heap.pop_if(is_even), Some(2));
+    assert_eq!(rt; heap.as_slice(), [1].as_slice());
+    assert_eq!(rt; heap.pop_if(is_even), None);
+    assert_eq!(rt; heap.as_slice(), [1].as_slice());
+    Ok(())
+}
+
+// A predicate that changes at each call, and may be called on any item after any calls.
+#[test]
+#[tactic(auto, using(dary_heap::proofs::Callable::takes_in_turn))]
+fn a_predicate_is_asked_about_each_item_in_order(rt: HostRuntime) -> Result<(), Fail> {
+    let mut heap = OctonaryHeap::from([-10, -5, 1, 2, 4, 13].to_vec(rt.alloc())?);
+    assert_eq!(rt; heap.as_slice(), [13, -5, 1, 2, 4, -10].as_slice());
+    let mut asked = Vec::new(rt.alloc());
+    heap.retain(|item| {
+        let _ = asked.push(*item);
+        is_even(item)
+    });
+    assert_eq!(rt; asked.as_slice(), [13, -5, 1, 2, 4, -10].as_slice());
+    for answer in [Some(4), Some(2), Some(-10), None] {
+        assert_eq!(rt; heap.pop(), answer);
+    }
+    Ok(())
+}
+
+// The iterator of an array may be called, and ends.
+#[test]
+fn items_come_in_by_value(rt: HostRuntime) -> Result<(), Fail> {
+    let mut heap = BinaryHeap::from([3, 1, 2].to_vec(rt.alloc())?);
+    heap.extend([9, 8])?;
+    assert_eq!(rt; heap.as_slice(), [9, 8, 2, 1, 3].as_slice());
+    // It is built whole.
+    let mut heap = BinaryHeap::from([2].to_vec(rt.alloc())?);
+    heap.extend([5, 9, 7])?;
+    assert_eq!(rt; heap.as_slice(), [9, 7, 2, 5].as_slice());
+    Ok(())
+}
+
+#[test]
+fn items_come_in_by_reference(rt: HostRuntime) -> Result<(), Fail> {
+    let mut heap = BinaryHeap::from([3, 1, 2].to_vec(rt.alloc())?);
+    heap.extend([9, 8].iter())?;
+    assert_eq!(rt; heap.as_slice(), [9, 8, 2, 1, 3].as_slice());
+    Ok(())
+}
+
+/// Mends a slice from a start, which is tested first, and compares it afterwards and what that made.
+fn mend<const D: usize>(
+    rt: &impl Abort,
+    alloc: Global,
+    before: &[i32],
+    start: usize,
+    after: &[i32],
+    made: u64,
+) -> Result<(), Fail> {
+    let mut items = before.to_vec(alloc)?;
+    let mut judge = Tally::new();
+    assert!(rt; start <= items.len());
+    mend_with::<i32, Tally, D>(&mut items, start, &mut judge);
+    assert_eq!(rt; items.as_slice(), after);
+    assert_eq!(rt; judge.made(), made, "{before:?} from {start}");
+    Ok(())
+}
+
+#[test]
+fn a_tail_is_taken_into_the_heap_order(rt: HostRuntime) -> Result<(), Fail> {
+    let alloc = rt.alloc();
+    // It is built whole. Sifting up would give `[9, 7, 5, 2]`.
+    mend::<2>(&rt, alloc, &[2, 5, 9, 7], 1, &[9, 7, 2, 5], 3)?;
+    mend::<2>(&rt, alloc, &[3, 1, 2, 9, 8], 3, &[9, 8, 2, 1, 3], 4)?;
+    mend::<2>(&rt, alloc, &[3, 1, 2], 3, &[3, 1, 2], 0)?;
+    mend::<8>(&rt, alloc, &[13, 1, 4], 1, &[13, 1, 4], 2)?;
+    let (before, after) = ([3, 1, 2, 3, -10, 43, 5, -20], [43, 1, 2, 3, -10, 3, 5, -20]);
+    mend::<8>(&rt, alloc, &before, 5, &after, 3)
+}
+
+// Each predicate may be called on any item.
+#[test]
+#[tactic(auto, using(dary_heap::proofs::Callable::all_callable))]
+fn a_run_gives_a_reply_to_each_command(rt: HostRuntime) -> Result<(), Fail> {
+    let mut heap = TernaryHeap::<i32>::new(rt.alloc());
+    let at_least_5 = |item: &i32| *item >= 5;
+    let commands = vec![in rt.alloc();
+        Command::Push(4),
+        Command::Push(4),
+        Command::Ask(at_least_5),
+        Command::Pop,
+        Command::Len,
+        Command::Pop,
+        Command::Pop,
+        Command::Ask(at_least_5),
+    ]?;
+    let Ok(replies) = run(rt.alloc(), &mut heap, commands) else {
+        return Err(Fail::from("no room for the replies"));
+    };
+    assert!(rt;
+        matches!(
+            replies.as_slice(),
+            [
+                Reply::Pushed,
+                Reply::Pushed,
+                Reply::Asked(Some(false)),
+                Reply::Popped(Some(4)),
+                Reply::Len(1),
+                Reply::Popped(Some(4)),
+                Reply::Popped(None),
+                Reply::Asked(None),
+            ]
+        )
+    );
+    Ok(())
+}
