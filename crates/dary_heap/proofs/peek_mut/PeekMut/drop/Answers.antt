@@ -1,3 +1,4 @@
+use Rattle.std.proofs.lemmas.List.Sorted.{IsPermutation-refl}
 use Rattle.std.proofs.Common.{rules, ◌≡◌, ap, ◌∙◌, length, arith}
 use Rattle.dary_heap.specs.State.{front}
 use Rattle.dary_heap.proofs.Loans.{lone_uncounted, lone_unexceeded, sunk_unmoved}
@@ -37,3 +38,40 @@ pub returns-clause-alone : goal.returns-clause-alone
 returns-clause-alone g c = λ one.
     let still = returns-clause-unmoved g c (lone_unexceeded g.T.Ord.cmp _ one) in
     same_contents _ _ still (search rules) (lone_uncounted g.row.D _ _ _ one (search rules))
+-- x
+
+pub invariant_of-heap : goal.invariant_of-heap
+invariant_of-heap g c =
+    let lent = c.args.self.lent in
+    rw c.swap.ensures.x_after (elim c.if-written.branch [
+      | then-written w ↦
+          let zs = w.sink_with.new.items in
+          let long = c.into_vec-items.result.ok.0 in
+          let all : length zs ≡ c.into_vec-items.result.len = omega arith in
+          let is = w.as_mut_slice.ensures.value ∙ c.into_vec-items.ensures.items in
+          rw (w.items-is, written_back _ zs _ all) ((rw is at w.sink_with.ensures.ordered) lent.below_root)
+      | else-written w ↦ rw (w.items-is, c.into_vec-items.ensures.items) (lent.whole w.if-written.false)
+    ])
+
+pub returns-clause-bag : goal.returns-clause-bag
+returns-clause-bag g c = rw c.swap.ensures.x_after (elim c.if-written.branch [
+  | then-written w ↦
+      let zs = w.sink_with.new.items in
+      let long = c.into_vec-items.result.ok.0 in
+      let all : length zs ≡ c.into_vec-items.result.len = omega arith in
+      let is = w.as_mut_slice.ensures.value ∙ c.into_vec-items.ensures.items in
+      rw (w.items-is, written_back _ zs _ all) (rw is at w.sink_with.ensures.bag)
+  | else-written w ↦ rw (w.items-is, c.into_vec-items.ensures.items) (IsPermutation-refl _)
+])
+
+pub returns-clause-counted : goal.returns-clause-counted
+returns-clause-counted g c = rw (← c.heap.view_is) (elim c.if-written.branch [
+  | then-written w ↦ rw w.heap-inside-is (rw (w.as_mut_slice.ensures.value, c.into_vec-items.ensures.items) at w.sink_with.ensures.counted)
+  | else-written w ↦ rw w.heap-inside-is record { rises = omega arith; within = omega arith }
+])
+
+pub returns-clause-tight : goal.returns-clause-tight
+returns-clause-tight g c = rw (← c.heap.view_is) (elim c.if-written.branch [
+  | then-written w ↦ rw w.heap-inside-is (rw (w.as_mut_slice.ensures.value, c.into_vec-items.ensures.items) at w.sink_with.ensures.tight)
+  | else-written w ↦ rw w.heap-inside-is record { rises = omega arith; within = omega arith }
+])

@@ -1,5 +1,9 @@
-use Rattle.std.proofs.Common.{rules, refl, ap, ◌≡◌, ◌∙◌, length, arith}
+use Rattle.std.proofs.Common.{rules, refl, ap, ◌≡◌, ◌∙◌, ℕ, ◌-◌, List, ◌++◌, length, take, arith}
+use Rattle.std.proofs.Math.Nat.{div-le_self}
+use Rattle.std.specs.declared.cmp.Ordering.{Ordering}
 use Rattle.dary_heap.specs.Contents.{Contents}
+use Rattle.dary_heap.specs.HeapOrder.{arity, IsHeapOrdered, IsHeapOrderedBelowRoot}
+use Rattle.std.proofs.lemmas.List.Sorted.{length_permutation}
 use Rattle.dary_heap.proofs.Fronts.{ordered_state}
 use Rattle.dary_heap.proofs.Loans.{lone_uncounted, lone_unexceeded, none_exceeds, sunk_moved, sunk_unmoved}
 use Rattle.dary_heap.proofs.Written.{same_contents, written_back}
@@ -35,3 +39,38 @@ returns-clause-alone g c = λ one.
     let is = c.as_mut_slice.ensures.value in
     let still = sunk_unmoved g.row.D xs zs _ (rw is at c.sink_with-moved.ensures.moved) (rw is at c.sink_with-moved.ensures.unchanged) (lone_unexceeded g.T.Ord.cmp xs one) in
     same_contents _ _ (written_back _ zs _ all ∙ still) refl (lone_uncounted g.row.D (length xs) _ _ one (rw is at c.sink_with-moved.ensures.counted) ∙ ap (λ (it : Contents g.row.T.Denot). it.comparisons) c.heap.view_is)
+
+below_root : {X : Type 0} {cmp : X → X → Ordering} (D : ℕ) (xs : List X) → IsHeapOrdered cmp D xs → IsHeapOrderedBelowRoot cmp D xs
+below_root D xs h = record { below_parent = λ i under. h.below_parent i (omega (arith, div-le_self (i - 1) (arity D))) }
+
+-- the loan's vector holds what the sink left
+written : (g : _) (c : goal.After-self-2-1 g) (ws : List g.row.T.Denot) → take c.args.self.now.items.len (c.sink_with-moved.new.items ++ ws) ≡ c.sink_with-moved.new.items
+written g c ws =
+    let long = c.args.self.now.items.ok.0 in
+    let all : length c.sink_with-moved.new.items ≡ c.args.self.now.items.len = omega arith in
+    written_back _ c.sink_with-moved.new.items ws all
+
+pub invariant_of-self : goal.invariant_of-self
+invariant_of-self g c =
+    let zs = c.sink_with-moved.new.items in
+    let is = c.as_mut_slice.ensures.value in
+    let ordered = (rw is at c.sink_with-moved.ensures.ordered) c.args.self.now.lent.below_root in
+    let as_many : length zs ≡ length c.args.self.now.items.items = length_permutation _ _ (rw is at c.sink_with-moved.ensures.bag) in
+    let long = c.args.self.now.items.ok.0 in
+    let all : length zs ≡ c.args.self.now.items.len = omega arith in
+    record { lent = rw (written_back _ zs _ all) record { some = omega (arith, c.args.self.now.lent.some); below_root = below_root g.row.D zs ordered; whole = λ settled. ordered } }
+
+pub returns-clause-bag : goal.returns-clause-bag
+returns-clause-bag g c = rw (written g c _) (rw c.as_mut_slice.ensures.value at c.sink_with-moved.ensures.bag)
+
+pub returns-clause-ordered : goal.returns-clause-ordered
+returns-clause-ordered g c = rw (written g c _) ((rw c.as_mut_slice.ensures.value at c.sink_with-moved.ensures.ordered) c.args.self.now.lent.below_root)
+
+pub returns-clause-counted : goal.returns-clause-counted
+returns-clause-counted g c = rw (← c.heap.view_is) (rw c.as_mut_slice.ensures.value at c.sink_with-moved.ensures.counted)
+
+pub returns-clause-tight : goal.returns-clause-tight
+returns-clause-tight g c = rw (← c.heap.view_is) (rw c.as_mut_slice.ensures.value at c.sink_with-moved.ensures.tight)
+
+pub returns-clause-unwritten : goal.returns-clause-unwritten
+returns-clause-unwritten g c = λ unwritten. let is = c.if-not-self.false in cc
