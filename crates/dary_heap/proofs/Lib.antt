@@ -31,6 +31,7 @@ pub mod States
 pub mod SameReplies
 pub mod SameStates
 pub mod Bags
+pub mod BelowRoot
 pub mod Cheapest
 pub mod Apart
 pub mod Examining

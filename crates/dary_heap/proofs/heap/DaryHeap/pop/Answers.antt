@@ -1,13 +1,8 @@
-use Rattle.std.proofs.Common.{◌≡◌, ◌↔◌, ℕ, ◌-◌, ◌<◌, List, [], ◌∷◌, length, refl, sym, subst, arith, Option, Some, None, IsSome, IfSome, slice_get}
-use Rattle.std.proofs.Math.Nat.{div-le_self}
-use Rattle.std.specs.declared.cmp.Ordering.{Ordering}
+use Rattle.std.proofs.Common.{◌≡◌, ◌↔◌, ◌<◌, List, [], ◌∷◌, length, refl, sym, subst, arith, Option, Some, None, IsSome, IfSome, slice_get}
 use Rattle.dary_heap.specs.Bounds.{RisesWithin, pop_bound}
-use Rattle.dary_heap.specs.HeapOrder.{arity, IsHeapOrdered, IsHeapOrderedBelowRoot}
+use Rattle.dary_heap.proofs.BelowRoot.{below_root}
 use Rattle.dary_heap.proofs.Order.{popped}
 use Rattle.dary_heap.proofs.heap.DaryHeap.pop.Goals as goal
-
-below_root : {X : Type 0} {cmp : X → X → Ordering} (D : ℕ) (xs : List X) → IsHeapOrdered cmp D xs → IsHeapOrderedBelowRoot cmp D xs
-below_root D xs h = record { below_parent = λ i under. h.below_parent i (omega (arith, div-le_self (i - 1) (arity D))) }
 
 first_of : {X : Type 0} (r : Option X) (xs : List X) → (IsSome r ↔ (0 < length xs)) → IfSome r (λ item. slice_get xs 0 ≡ Some item) → r ≡ slice_get xs 0
 first_of None [] some is = refl

@@ -39,8 +39,6 @@ returns-clause-alone g c = λ one.
     let still = returns-clause-unmoved g c (lone_unexceeded g.T.Ord.cmp _ one) in
     same_contents _ _ still (search rules) (lone_uncounted g.row.D _ _ _ one (search rules))
 
--- x
-
 pub invariant_of-heap : goal.invariant_of-heap
 invariant_of-heap g c =
     let lent = c.args.self.lent in

@@ -1,9 +1,7 @@
-use Rattle.std.proofs.Common.{rules, refl, ap, ◌≡◌, ◌∙◌, ℕ, ◌-◌, List, ◌++◌, length, take, arith}
-use Rattle.std.proofs.Math.Nat.{div-le_self}
-use Rattle.std.specs.declared.cmp.Ordering.{Ordering}
+use Rattle.std.proofs.Common.{rules, refl, ap, ◌≡◌, ◌∙◌, List, ◌++◌, length, take, arith}
 use Rattle.dary_heap.specs.Contents.{Contents}
-use Rattle.dary_heap.specs.HeapOrder.{arity, IsHeapOrdered, IsHeapOrderedBelowRoot}
 use Rattle.std.proofs.lemmas.List.Sorted.{length_permutation}
+use Rattle.dary_heap.proofs.BelowRoot.{below_root}
 use Rattle.dary_heap.proofs.Fronts.{ordered_state}
 use Rattle.dary_heap.proofs.Loans.{lone_uncounted, lone_unexceeded, none_exceeds, sunk_moved, sunk_unmoved}
 use Rattle.dary_heap.proofs.Written.{same_contents, written_back}
@@ -39,9 +37,6 @@ returns-clause-alone g c = λ one.
     let is = c.as_mut_slice.ensures.value in
     let still = sunk_unmoved g.row.D xs zs _ (rw is at c.sink_with-moved.ensures.moved) (rw is at c.sink_with-moved.ensures.unchanged) (lone_unexceeded g.T.Ord.cmp xs one) in
     same_contents _ _ (written_back _ zs _ all ∙ still) refl (lone_uncounted g.row.D (length xs) _ _ one (rw is at c.sink_with-moved.ensures.counted) ∙ ap (λ (it : Contents g.row.T.Denot). it.comparisons) c.heap.view_is)
-
-below_root : {X : Type 0} {cmp : X → X → Ordering} (D : ℕ) (xs : List X) → IsHeapOrdered cmp D xs → IsHeapOrderedBelowRoot cmp D xs
-below_root D xs h = record { below_parent = λ i under. h.below_parent i (omega (arith, div-le_self (i - 1) (arity D))) }
 
 -- the loan's vector holds what the sink left
 written : (g : _) (c : goal.After-self-2-1 g) (ws : List g.row.T.Denot) → take c.args.self.now.items.len (c.sink_with-moved.new.items ++ ws) ≡ c.sink_with-moved.new.items
