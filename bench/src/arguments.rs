@@ -1,33 +1,31 @@
 //! What the user asks for.
 
-use crate::workload::WORKLOADS;
+use crate::workload::{SEARCH, WORKLOADS};
 
-pub const USAGE: &str = "usage: dary_heap_bench [--arities 2,3,4,8] [--sizes 1000,100000,1000000]
-                       [--rounds 9] [WORKLOAD..]
+pub const USAGE: &str =
+    "usage: dary_heap_bench [--arities 2,3,4,8] [--sizes N,..] [--rounds 9] [WORKLOAD..]
 An arity is 1 to 8, and a size 1 to 100000000.";
-
-/// The workload that is no call of a heap but a search.
-pub const SEARCH: &str = "shortest_path";
 
 pub struct Wanted {
     pub arities: Vec<usize>,
-    pub sizes: Vec<usize>,
+    /// None if each workload has its own.
+    pub sizes: Option<Vec<usize>>,
     pub rounds: usize,
     pub workloads: Vec<String>,
 }
 
-/// Reads the arguments. None where they are not as the usage says.
+/// Reads the arguments. None if they are not as the usage says.
 pub fn read(mut words: impl Iterator<Item = String>) -> Option<Wanted> {
     let mut wanted = Wanted {
         arities: vec![2, 3, 4, 8],
-        sizes: vec![1_000, 100_000, 1_000_000],
+        sizes: None,
         rounds: 9,
         workloads: Vec::new(),
     };
     while let Some(word) = words.next() {
         match word.as_str() {
             "--arities" => wanted.arities = numbers(&words.next()?, 8)?,
-            "--sizes" => wanted.sizes = numbers(&words.next()?, 100_000_000)?,
+            "--sizes" => wanted.sizes = Some(numbers(&words.next()?, 100_000_000)?),
             "--rounds" => wanted.rounds = number(&words.next()?, 1_000_000)?,
             _ => wanted.workloads.push(known(word)?),
         }

@@ -1,5 +1,6 @@
 //! The comparisons that the heaps in Rust make.
 
+use crate::items::Item;
 use std::cell::Cell;
 use std::cmp::Ordering;
 
@@ -47,18 +48,16 @@ impl PartialEq for Counted {
 
 impl Eq for Counted {}
 
-/// What the workloads need of an item.
-pub trait Item: Ord + Copy {
-    fn is_odd(&self) -> bool;
-}
-
-impl Item for i64 {
-    fn is_odd(&self) -> bool {
-        self & 1 != 0
-    }
-}
-
 impl Item for Counted {
+    type Mark = i64;
+    type Flat = ();
+
+    fn mark(&self) -> i64 {
+        self.0
+    }
+
+    fn flat(_items: &[Counted]) {}
+
     fn is_odd(&self) -> bool {
         self.0.is_odd()
     }

@@ -1,8 +1,11 @@
 //! The inputs of a line. They depend on the line alone, so each run of the program has the same.
 
+use crate::items::Draw;
+use crate::queue::Queue;
 use crate::random::Random;
 use crate::search::Graph;
-use crate::workload::{of_crate, Call, Given, Task, Workload};
+use crate::workload::{Given, Task, Workload};
+use dary_heap::DaryHeap;
 
 /// How many edges leave a node.
 const EDGES: usize = 5;
@@ -18,19 +21,23 @@ fn inputs(items: usize) -> usize {
 }
 
 /// The tasks of a workload with so many items each.
-pub fn tasks(workload: &Workload, arity: usize, items: usize) -> Vec<Task<i64>> {
+pub fn tasks<T: Draw>(workload: &Workload, arity: usize, items: usize) -> Vec<Task<T>> {
     let numbers = (0..inputs(items)).map(|at| Random::new(at as u64));
     numbers
-        .map(|mut random| Task {
-            items: placed(workload.given, arity, random.numbers(items)),
-            more: random.numbers(items),
-            piece: workload.piece_of(items),
+        .map(|mut random| {
+            let first = placed(workload.given, arity, drawn(&mut random, items));
+            let more = drawn(&mut random, items);
+            Task::new(first, more, workload.piece_of(items))
         })
         .collect()
 }
 
-/// The numbers as the workload wants them to lie.
-fn placed(given: Given, arity: usize, mut items: Vec<i64>) -> Vec<i64> {
+fn drawn<T: Draw>(random: &mut Random, items: usize) -> Vec<T> {
+    (0..items).map(|_| T::draw(random)).collect()
+}
+
+/// The items as the workload wants them to lie.
+fn placed<T: Draw>(given: Given, arity: usize, mut items: Vec<T>) -> Vec<T> {
     match given {
         Given::Random => items,
         Given::Ascending => {
@@ -41,16 +48,22 @@ fn placed(given: Given, arity: usize, mut items: Vec<i64>) -> Vec<i64> {
     }
 }
 
-/// The slice of the crate's heap of the numbers.
-fn heap_ordered(arity: usize, items: Vec<i64>) -> Vec<i64> {
-    let mut out = vec![0; items.len()];
-    let task = Task {
-        items,
-        more: Vec::new(),
-        piece: 1,
-    };
-    of_crate(Call::Build, arity)(&task, &mut out);
-    out
+/// The slice of the crate's heap of the items.
+fn heap_ordered<T: Draw>(arity: usize, items: Vec<T>) -> Vec<T> {
+    match arity {
+        1 => slice_of::<T, DaryHeap<T, 1>>(items),
+        2 => slice_of::<T, DaryHeap<T, 2>>(items),
+        3 => slice_of::<T, DaryHeap<T, 3>>(items),
+        4 => slice_of::<T, DaryHeap<T, 4>>(items),
+        5 => slice_of::<T, DaryHeap<T, 5>>(items),
+        6 => slice_of::<T, DaryHeap<T, 6>>(items),
+        7 => slice_of::<T, DaryHeap<T, 7>>(items),
+        _ => slice_of::<T, DaryHeap<T, 8>>(items),
+    }
+}
+
+fn slice_of<T: Draw, Q: Queue<T>>(items: Vec<T>) -> Vec<T> {
+    Q::of(items).as_slice().to_vec()
 }
 
 /// Graphs with so many edges each, to random nodes.

@@ -1,5 +1,7 @@
-//! The heap of this repository, as the functions of the static library `dary_heap_c`.
+//! The heap of this repository, as the functions of the static libraries `dary_heap_c`, for numbers, and
+//! `dary_heap_bench`, for wider items.
 
+use crate::items::{Entry, Item, Record};
 use crate::search::Graph;
 use crate::workload::{Call, Task};
 
@@ -74,15 +76,169 @@ functions_of_churn! { dheap_churn_i64 dheap_churn_counted }
 
 functions_of_graph! { dheap_shortest dheap_shortest_counted }
 
-/// Whether a call answers how many numbers it wrote, or how often it compared.
+/// Functions of an arity, wide items, and where items are written to.
+macro_rules! functions_of_wide {
+    ($item:ty: $($name:ident)*) => {
+        extern "C" {
+            $(fn $name(
+                arity: usize,
+                items: *const $item,
+                items_len: usize,
+                out: *mut $item,
+                out_len: usize,
+            ) -> u64;)*
+        }
+    };
+}
+
+/// The same with what a churn pushes.
+macro_rules! churns_of_wide {
+    ($($item:ty: $name:ident)*) => {
+        extern "C" {
+            $(fn $name(
+                arity: usize,
+                items: *const $item,
+                items_len: usize,
+                more: *const $item,
+                more_len: usize,
+                out: *mut $item,
+                out_len: usize,
+            ) -> u64;)*
+        }
+    };
+}
+
+functions_of_wide! { Entry:
+    dheap_copy_entries dheap_hold_entries dheap_build_entries dheap_push_entries dheap_pop_entries
+}
+
+functions_of_wide! { Record:
+    dheap_copy_records dheap_hold_records dheap_build_records dheap_push_records dheap_pop_records
+}
+
+churns_of_wide! { Entry: dheap_churn_entries Record: dheap_churn_records }
+
+/// Functions of an arity, strings as their bytes and ends, and where marks are written to.
+macro_rules! functions_of_strings {
+    ($($name:ident)*) => {
+        extern "C" {
+            $(fn $name(
+                arity: usize,
+                bytes: *const u8,
+                bytes_len: usize,
+                ends: *const usize,
+                ends_len: usize,
+                out: *mut u64,
+                out_len: usize,
+            ) -> u64;)*
+        }
+    };
+}
+
+functions_of_strings! {
+    dheap_copy_strings dheap_build_strings dheap_push_strings dheap_pop_strings
+}
+
+extern "C" {
+    fn dheap_churn_strings(
+        arity: usize,
+        bytes: *const u8,
+        bytes_len: usize,
+        ends: *const usize,
+        ends_len: usize,
+        more_bytes: *const u8,
+        more_bytes_len: usize,
+        more_ends: *const usize,
+        more_ends_len: usize,
+        out: *mut u64,
+        out_len: usize,
+    ) -> u64;
+}
+
+/// Whether a call returns how many numbers it wrote, or how often it compared.
 #[derive(Clone, Copy)]
 pub enum Answer {
     Written,
     Comparisons,
 }
 
-/// The call on the task's items. None where the library refuses it.
-pub fn run(
+/// Items on which the library has workloads.
+pub trait InLibrary: Item {
+    /// Makes the call on the task's items, and returns how many marks it wrote. None if the library
+    /// refuses it.
+    fn run(call: Call, arity: usize, task: &Task<Self>, out: &mut [Self::Mark]) -> Option<u64>;
+}
+
+impl InLibrary for i64 {
+    fn run(call: Call, arity: usize, task: &Task<i64>, out: &mut [i64]) -> Option<u64> {
+        on_numbers(call, Answer::Written, arity, task, out)
+    }
+}
+
+impl InLibrary for Entry {
+    fn run(call: Call, arity: usize, task: &Task<Entry>, out: &mut [Entry]) -> Option<u64> {
+        let function = match call {
+            Call::Copy => dheap_copy_entries,
+            Call::Hold => dheap_hold_entries,
+            Call::Build => dheap_build_entries,
+            Call::Push => dheap_push_entries,
+            Call::Pop => dheap_pop_entries,
+            Call::Churn => return churn_of_wide(dheap_churn_entries, arity, task, out),
+            _ => return None,
+        };
+        of_wide(function, arity, task, out)
+    }
+}
+
+impl InLibrary for Record {
+    fn run(call: Call, arity: usize, task: &Task<Record>, out: &mut [[u64; 8]]) -> Option<u64> {
+        let function = match call {
+            Call::Copy => dheap_copy_records,
+            Call::Hold => dheap_hold_records,
+            Call::Build => dheap_build_records,
+            Call::Push => dheap_push_records,
+            Call::Pop => dheap_pop_records,
+            Call::Churn => return churn_of_wide(dheap_churn_records, arity, task, out),
+            _ => return None,
+        };
+        of_wide(function, arity, task, out)
+    }
+}
+
+impl InLibrary for String {
+    fn run(call: Call, arity: usize, task: &Task<String>, out: &mut [u64]) -> Option<u64> {
+        let function = match call {
+            Call::Copy => dheap_copy_strings,
+            // It takes no heap as it is, so it builds.
+            Call::Hold | Call::Build => dheap_build_strings,
+            Call::Push => dheap_push_strings,
+            Call::Pop => dheap_pop_strings,
+            Call::Churn => return churn_of_strings(arity, task, out),
+            _ => return None,
+        };
+        let items = &task.flat;
+        // SAFETY: as in `of_items`.
+        granted(unsafe {
+            function(
+                arity,
+                items.bytes.as_ptr(),
+                items.bytes.len(),
+                items.ends.as_ptr(),
+                items.ends.len(),
+                out.as_mut_ptr(),
+                out.len(),
+            )
+        })
+    }
+}
+
+/// Counts the comparisons of the call on the task's numbers. None if the library refuses it.
+pub fn count(call: Call, arity: usize, task: &Task<i64>) -> Option<u64> {
+    let mut out = vec![0; task.items.len()];
+    on_numbers(call, Answer::Comparisons, arity, task, &mut out)
+}
+
+fn on_numbers(
     call: Call,
     answer: Answer,
     arity: usize,
@@ -90,6 +246,7 @@ pub fn run(
     out: &mut [i64],
 ) -> Option<u64> {
     let functions: [OfItems; 2] = match call {
+        Call::Copy => return None,
         Call::Hold => [dheap_hold_i64, dheap_hold_counted],
         Call::Build => [dheap_build_i64, dheap_build_counted],
         Call::Push => [dheap_push_i64, dheap_push_counted],
@@ -101,6 +258,70 @@ pub fn run(
         Call::Sorted => [dheap_sorted_i64, dheap_sorted_counted],
     };
     of_items(functions[answer as usize], arity, task, out)
+}
+
+/// Whether marks of items have the size and the alignment of the items. They have the layout too.
+const fn is_alike<T: Item>() -> bool {
+    size_of::<T>() == size_of::<T::Mark>() && align_of::<T>() == align_of::<T::Mark>()
+}
+
+type OfWide<T> = unsafe extern "C" fn(usize, *const T, usize, *mut T, usize) -> u64;
+type ChurnOfWide<T> =
+    unsafe extern "C" fn(usize, *const T, usize, *const T, usize, *mut T, usize) -> u64;
+
+fn of_wide<T: Item>(
+    function: OfWide<T>,
+    arity: usize,
+    task: &Task<T>,
+    out: &mut [T::Mark],
+) -> Option<u64> {
+    const { assert!(is_alike::<T>()) };
+    let items = &task.items;
+    let place = out.as_mut_ptr().cast();
+    // SAFETY: as in `of_items`.
+    granted(unsafe { function(arity, items.as_ptr(), items.len(), place, out.len()) })
+}
+
+fn churn_of_wide<T: Item>(
+    function: ChurnOfWide<T>,
+    arity: usize,
+    task: &Task<T>,
+    out: &mut [T::Mark],
+) -> Option<u64> {
+    const { assert!(is_alike::<T>()) };
+    let (items, more) = (&task.items, &task.more);
+    // SAFETY: as in `of_items`.
+    granted(unsafe {
+        function(
+            arity,
+            items.as_ptr(),
+            items.len(),
+            more.as_ptr(),
+            more.len(),
+            out.as_mut_ptr().cast(),
+            out.len(),
+        )
+    })
+}
+
+fn churn_of_strings(arity: usize, task: &Task<String>, out: &mut [u64]) -> Option<u64> {
+    let (items, more) = (&task.flat, &task.more_flat);
+    // SAFETY: as in `of_items`.
+    granted(unsafe {
+        dheap_churn_strings(
+            arity,
+            items.bytes.as_ptr(),
+            items.bytes.len(),
+            items.ends.as_ptr(),
+            items.ends.len(),
+            more.bytes.as_ptr(),
+            more.bytes.len(),
+            more.ends.as_ptr(),
+            more.ends.len(),
+            out.as_mut_ptr(),
+            out.len(),
+        )
+    })
 }
 
 fn granted(answer: u64) -> Option<u64> {
@@ -140,7 +361,7 @@ fn churn(answer: Answer, arity: usize, task: &Task<i64>, out: &mut [i64]) -> Opt
     })
 }
 
-/// The searches of the graph. None where the library refuses them.
+/// The searches of the graph. None if the library refuses them.
 pub fn searches(answer: Answer, arity: usize, graph: &Graph, out: &mut [u64]) -> Option<u64> {
     let function = [dheap_shortest, dheap_shortest_counted][answer as usize];
     // SAFETY: as in `of_items`; the offsets rise to the number of edges, and starts and targets are

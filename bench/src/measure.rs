@@ -1,125 +1,191 @@
-//! Times the three by turns, and compares what they wrote.
+//! Times the rivals by turns, and compares what they wrote.
 
-use crate::rivals::{Input, Rival, CRATE, NAMES, STD};
+use crate::rivals::{Agreement, Input, Rival, BOOST, CPP, CRATE, HERE, STD};
 use std::fmt;
 use std::time::{Duration, Instant};
 
-/// For how long a line is measured at least, where its runs are short.
+/// For how long a line is measured at least, if its runs are short.
 const AT_LEAST: Duration = Duration::from_millis(300);
+/// After how long a line has no further round, if it has had `FEWEST`.
+const ENOUGH: Duration = Duration::from_secs(8);
+const FEWEST: usize = 3;
 
-/// The least time and the comparisons of each of the three, over all inputs of a line, which have
-/// so many items.
-pub struct Figures {
-    items: usize,
-    times: [Duration; 3],
-    comparisons: [u64; 3],
+/// Less than this part of the time of a set-up can't be told from it.
+const TOLD: u32 = 20;
+
+/// The least time of a rival and its comparisons, over all inputs of a line.
+struct Figure {
+    name: &'static str,
+    /// None if too little is left of it when the set-up is taken off.
+    time: Option<Duration>,
+    comparisons: Option<u64>,
 }
 
-/// What is printed of `Figures`: ratios of times, nanoseconds an item, and comparisons an item.
-pub const HEADER: &str = "over_crate over_std   here_ns crate_ns   std_ns  \
-                          here_comparisons crate_comparisons std_comparisons";
+/// The figures of the rivals of a line, whose inputs have so many items.
+pub struct Figures {
+    items: usize,
+    of: Vec<Figure>,
+}
 
+/// Those whose times this heap's is divided by, those whose times are printed, and those whose
+/// comparisons are.
+const DIVISORS: [&str; 4] = [CRATE, STD, CPP, BOOST];
+const TIMED: [&str; 5] = [HERE, CRATE, STD, CPP, BOOST];
+const COUNTED: [&str; 3] = [HERE, CRATE, STD];
+
+/// The heads of the columns of `Figures`.
+pub fn header() -> String {
+    let ratios = DIVISORS.map(|name| format!("{:>10}", format!("over_{name}")));
+    let times = TIMED.map(|name| format!("{:>9}", format!("{name}_ns")));
+    let comparisons = COUNTED.map(|name| format!("{:>17}", format!("{name}_comparisons")));
+    [ratios.join(" "), times.join(" "), comparisons.join(" ")].join("  ")
+}
+
+/// Ratios of times, nanoseconds an item, and comparisons an item, with a dash for what isn't there.
 impl fmt::Display for Figures {
     fn fmt(&self, f: &mut fmt::Formatter) -> fmt::Result {
-        let items = self.items as f64;
-        let [here, of_crate, of_std] = self.times.map(|time| time.as_nanos() as f64 / items);
-        write!(f, "{:>10.3} {:>8.3}  ", here / of_crate, here / of_std)?;
-        write!(f, "{here:>8.2} {of_crate:>8.2} {of_std:>8.2}  ")?;
-        let [here, of_crate, of_std] = self.comparisons.map(|made| made as f64 / items);
-        write!(f, "{here:>16.3} {of_crate:>17.3} {of_std:>15.3}")
+        let ratios = DIVISORS.map(|name| cell(10, 3, self.over(name)));
+        let times = TIMED.map(|name| cell(9, 2, self.nanoseconds(name)));
+        let comparisons = COUNTED.map(|name| cell(17, 3, self.comparisons(name)));
+        write!(
+            f,
+            "{}  {}  {}",
+            ratios.join(" "),
+            times.join(" "),
+            comparisons.join(" ")
+        )
+    }
+}
+
+fn cell(width: usize, digits: usize, number: Option<f64>) -> String {
+    match number {
+        Some(number) => format!("{number:>width$.digits$}"),
+        None => format!("{:>width$}", "-"),
     }
 }
 
 impl Figures {
-    /// Takes the time of a set-up off. Something is left, whatever the clock says.
+    fn figure(&self, name: &str) -> Option<&Figure> {
+        self.of.iter().find(|figure| figure.name == name)
+    }
+
+    fn nanoseconds(&self, name: &str) -> Option<f64> {
+        let time = self.figure(name)?.time?;
+        Some(time.as_nanos() as f64 / self.items as f64)
+    }
+
+    /// The time of this heap over that of another.
+    fn over(&self, name: &str) -> Option<f64> {
+        Some(self.nanoseconds(HERE)? / self.nanoseconds(name)?)
+    }
+
+    fn comparisons(&self, name: &str) -> Option<f64> {
+        let made = self.figure(name)?.comparisons?;
+        Some(made as f64 / self.items as f64)
+    }
+
+    /// Takes the time of a set-up off.
     pub fn take_off(&mut self, set_up: &Figures) {
-        for (time, less) in self.times.iter_mut().zip(set_up.times) {
-            *time = time.saturating_sub(less).max(Duration::from_nanos(1));
+        for figure in &mut self.of {
+            let less = set_up.figure(figure.name).and_then(|set_up| set_up.time);
+            figure.time = figure.time.and_then(|time| rest(time, less?));
         }
     }
 
-    /// Says it where the comparisons aren't those of the crate.
+    /// Says it if the comparisons aren't those of the crate.
     pub fn fault(&self) -> Option<String> {
-        let [here, of_crate, _] = self.comparisons;
+        let here = self.figure(HERE)?.comparisons?;
+        let of_crate = self.figure(CRATE)?.comparisons?;
         (here != of_crate).then(|| format!("here {here} comparisons, the crate {of_crate}"))
     }
 }
 
-/// How far std's output has to be the crate's. Its slice is another wherever the arity is.
-#[derive(Clone, Copy)]
-pub enum Agreement {
-    Equal,
-    SameItems,
+/// What is left of a time, if it is enough to be told.
+fn rest(time: Duration, less: Duration) -> Option<Duration> {
+    let rest = time.checked_sub(less)?;
+    (rest > less / TOLD).then_some(rest)
 }
 
-/// The three on some inputs, and what the crate's heap writes of each.
+/// The rivals on some inputs, and what the crate's heap writes of each.
 struct Line<'a, I: Input> {
-    rivals: &'a [Rival<I>; 3],
+    rivals: &'a [Rival<I>],
     inputs: &'a [I],
     wanted: Vec<Vec<I::Output>>,
-    of_std: Agreement,
 }
 
-/// Measures in at least so many rounds, in each of which each of the three makes one run. A fault
-/// says what was refused or is another answer.
+/// Measures in so many rounds, in each of which each rival makes one run; in more if they are short, and
+/// in fewer if they are long. A fault says what was refused or is another output.
 pub fn measure<I: Input>(
-    rivals: &[Rival<I>; 3],
+    rivals: &[Rival<I>],
     inputs: &[I],
-    of_std: Agreement,
     rounds: usize,
 ) -> Result<Figures, String> {
-    let written = inputs.iter().map(|input| output(&rivals[CRATE], input));
     let line = Line {
         rivals,
         inputs,
-        wanted: written.collect(),
-        of_std,
+        wanted: wanted(rivals, inputs),
     };
-    let mut figures = Figures {
-        items: inputs.iter().map(Input::items).sum(),
-        times: [Duration::MAX; 3],
-        comparisons: line.comparisons()?,
-    };
+    let mut of = rivals
+        .iter()
+        .map(|rival| line.unmeasured(rival))
+        .collect::<Result<Vec<_>, _>>()?;
     let begun = Instant::now();
     let mut round = 0;
-    while round < rounds || begun.elapsed() < AT_LEAST {
-        line.round(round, &mut figures.times)?;
+    while is_due(round, rounds, begun.elapsed()) {
+        line.round(round, &mut of)?;
         round += 1;
     }
-    Ok(figures)
+    Ok(Figures {
+        items: inputs.iter().map(Input::items).sum(),
+        of,
+    })
 }
 
-/// What the rival, which refuses nothing, writes of an input.
-fn output<I: Input>(rival: &Rival<I>, input: &I) -> Vec<I::Output> {
-    let mut out = vec![I::Output::default(); input.room()];
-    let written = (rival.run)(input, &mut out).unwrap_or(0);
-    out.truncate(written);
-    out
+/// Whether another round is made after so many.
+fn is_due(made: usize, rounds: usize, elapsed: Duration) -> bool {
+    made < rounds.min(FEWEST) || elapsed < AT_LEAST || (made < rounds && elapsed < ENOUGH)
+}
+
+/// What the crate's heap, which refuses nothing, writes of each input.
+fn wanted<I: Input>(rivals: &[Rival<I>], inputs: &[I]) -> Vec<Vec<I::Output>> {
+    let of_the_crate = rivals.iter().find(|rival| rival.name == CRATE);
+    let run = |input: &I| {
+        let mut out = vec![I::Output::default(); input.room()];
+        let written = of_the_crate.and_then(|rival| (rival.run)(input, &mut out));
+        out.truncate(written.unwrap_or(0) as usize);
+        out
+    };
+    inputs.iter().map(run).collect()
 }
 
 impl<I: Input> Line<'_, I> {
-    /// The comparisons of each of the three.
-    fn comparisons(&self) -> Result<[u64; 3], String> {
-        let mut made = [0; 3];
-        for (who, rival) in self.rivals.iter().enumerate() {
-            let counts = self.inputs.iter().map(|input| (rival.count)(input));
-            let sum: Option<u64> = counts.sum();
-            made[who] = sum.ok_or_else(|| format!("{} refused to count", NAMES[who]))?;
+    /// The rival with its comparisons, before any run.
+    fn unmeasured(&self, rival: &Rival<I>) -> Result<Figure, String> {
+        let mut comparisons = None;
+        if let Some(count) = &rival.count {
+            let sum: Option<u64> = self.inputs.iter().map(count).sum();
+            comparisons = Some(sum.ok_or_else(|| format!("{} refused to count", rival.name))?);
         }
-        Ok(made)
+        Ok(Figure {
+            name: rival.name,
+            time: None,
+            comparisons,
+        })
     }
 
-    /// A run of each of the three. Another one begins in the next round.
-    fn round(&self, round: usize, times: &mut [Duration; 3]) -> Result<(), String> {
-        for turn in 0..3 {
-            let who = (round + turn) % 3;
-            times[who] = times[who].min(self.run(who)?);
+    /// A run of each rival. Another one begins in the next round.
+    fn round(&self, round: usize, figures: &mut [Figure]) -> Result<(), String> {
+        let rivals = self.rivals.len();
+        for turn in 0..rivals {
+            let who = (round + turn) % rivals;
+            let time = self.run(&self.rivals[who])?;
+            figures[who].time = Some(figures[who].time.map_or(time, |least| least.min(time)));
         }
         Ok(())
     }
 
     /// The time of one run through all inputs.
-    fn run(&self, who: usize) -> Result<Duration, String> {
+    fn run(&self, rival: &Rival<I>) -> Result<Duration, String> {
         let longest = self.inputs.iter().map(Input::room).max();
         let mut room = vec![I::Output::default(); longest.unwrap_or(0)];
         let mut time = Duration::ZERO;
@@ -127,24 +193,22 @@ impl<I: Input> Line<'_, I> {
             let out = &mut room[..input.room()];
             out.fill(I::Output::default());
             let begun = Instant::now();
-            let written = (self.rivals[who].run)(input, out);
+            let written = (rival.run)(input, out);
             time += begun.elapsed();
-            let written = written.ok_or_else(|| format!("{} refused", NAMES[who]))?;
-            if !self.agrees(who, &out[..written.min(input.room())], wanted) {
-                return Err(format!(
-                    "{} gives another answer than the crate",
-                    NAMES[who]
-                ));
+            let written = written.ok_or_else(|| format!("{} refused", rival.name))?;
+            let written = &out[..input.room().min(written as usize)];
+            if !agrees(rival.agreement, written, wanted) {
+                return Err(format!("{} has another output than the crate", rival.name));
             }
         }
         Ok(time)
     }
+}
 
-    fn agrees(&self, who: usize, written: &[I::Output], wanted: &[I::Output]) -> bool {
-        match self.of_std {
-            Agreement::SameItems if who == STD => sorted(written) == sorted(wanted),
-            _ => written == wanted,
-        }
+fn agrees<T: Copy + Ord>(agreement: Agreement, written: &[T], wanted: &[T]) -> bool {
+    match agreement {
+        Agreement::Equal => written == wanted,
+        Agreement::SameItems => sorted(written) == sorted(wanted),
     }
 }
 

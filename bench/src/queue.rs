@@ -21,7 +21,7 @@ pub trait Queue<T>: Sized {
     fn as_slice(&self) -> &[T];
 }
 
-impl<T: Ord + Copy, const D: usize> Queue<T> for DaryHeap<T, D> {
+impl<T: Ord + Clone, const D: usize> Queue<T> for DaryHeap<T, D> {
     fn empty() -> Self {
         DaryHeap::new()
     }
@@ -44,7 +44,7 @@ impl<T: Ord + Copy, const D: usize> Queue<T> for DaryHeap<T, D> {
     }
 
     fn extend(&mut self, items: &[T]) {
-        Extend::extend(self, items);
+        Extend::extend(self, items.iter().cloned());
     }
 
     fn append(&mut self, other: &mut Self) {
@@ -65,7 +65,7 @@ impl<T: Ord + Copy, const D: usize> Queue<T> for DaryHeap<T, D> {
 }
 
 /// std's heap takes no vector as it is, so it builds, and has no sorted iterator, so it pops.
-impl<T: Ord + Copy> Queue<T> for BinaryHeap<T> {
+impl<T: Ord + Clone> Queue<T> for BinaryHeap<T> {
     fn empty() -> Self {
         BinaryHeap::new()
     }
@@ -87,7 +87,7 @@ impl<T: Ord + Copy> Queue<T> for BinaryHeap<T> {
     }
 
     fn extend(&mut self, items: &[T]) {
-        Extend::extend(self, items);
+        Extend::extend(self, items.iter().cloned());
     }
 
     fn append(&mut self, other: &mut Self) {

@@ -23,9 +23,4 @@ impl Random {
     pub fn below(&mut self, end: usize) -> usize {
         (self.number() % end as u64) as usize
     }
-
-    /// So many signed numbers.
-    pub fn numbers(&mut self, count: usize) -> Vec<i64> {
-        (0..count).map(|_| self.number() as i64).collect()
-    }
 }

@@ -1,13 +1,16 @@
 //! What is timed: the calls, and the workloads that make them on given items.
 
-use crate::counting::{self, Item};
+use crate::counting;
+use crate::items::Item;
 use crate::queue::Queue;
 use dary_heap::DaryHeap;
 use std::collections::BinaryHeap;
 
-/// What is done with a heap. Each call takes the items and writes numbers of the heap to a slice.
+/// What is done with a heap. Each call takes the items and writes the marks of items of the heap.
 #[derive(Clone, Copy, PartialEq)]
 pub enum Call {
+    /// No heap is made: the items are copied and written.
+    Copy,
     Hold,
     Build,
     Push,
@@ -17,6 +20,15 @@ pub enum Call {
     Append,
     Retain,
     Sorted,
+}
+
+/// What the items are.
+#[derive(Clone, Copy)]
+pub enum Kind {
+    Numbers,
+    Entries,
+    Records,
+    Strings,
 }
 
 /// How the items of a workload lie.
@@ -34,21 +46,69 @@ pub enum Piece {
     Eighth,
 }
 
+#[derive(Clone, Copy)]
 pub struct Workload {
     pub name: &'static str,
+    pub kind: Kind,
     pub call: Call,
     pub given: Given,
     pub piece: Piece,
+    /// The call whose time is taken off.
+    pub set_up: Option<Call>,
+    /// The sizes, if none are asked for.
+    pub sizes: &'static [usize],
 }
 
+/// Sizes to beyond the caches.
+const ALL: &[usize] = &[1_000, 10_000, 100_000, 1_000_000, 10_000_000];
+const SOME: &[usize] = &[1_000, 100_000, 1_000_000];
+
 impl Workload {
-    const fn new(name: &'static str, call: Call, given: Given, piece: Piece) -> Workload {
+    const fn on_numbers(name: &'static str, call: Call, given: Given) -> Workload {
         Workload {
             name,
+            kind: Kind::Numbers,
             call,
             given,
-            piece,
+            piece: Piece::Of(1),
+            set_up: match (call, given) {
+                (Call::Hold, _) => None,
+                (_, Given::HeapOrdered) => Some(Call::Hold),
+                _ => None,
+            },
+            sizes: SOME,
         }
+    }
+
+    const fn at_all_sizes(self) -> Workload {
+        Workload { sizes: ALL, ..self }
+    }
+
+    const fn by(self, piece: Piece) -> Workload {
+        Workload { piece, ..self }
+    }
+
+    /// A workload on wider items, which are dear to copy, so that a copy is taken off as well.
+    const fn on(kind: Kind, name: &'static str, call: Call) -> Workload {
+        let (given, set_up) = match call {
+            Call::Build | Call::Push => (Given::Random, Call::Copy),
+            _ => (Given::HeapOrdered, Call::Hold),
+        };
+        Workload {
+            kind,
+            set_up: Some(set_up),
+            ..Workload::on_numbers(name, call, given)
+        }
+    }
+
+    /// What is taken off, on the same items.
+    pub fn set_up(&self) -> Option<Workload> {
+        let call = self.set_up?;
+        Some(Workload {
+            call,
+            set_up: None,
+            ..*self
+        })
     }
 
     /// How many items are in a piece.
@@ -60,39 +120,62 @@ impl Workload {
     }
 }
 
-/// The set-up of those that begin with a heap: taking a heap ordered vector, and copying it out.
-pub const HOLD: Workload = Workload::new("hold", Call::Hold, Given::HeapOrdered, Piece::Of(1));
-
-pub const WORKLOADS: [Workload; 12] = [
-    HOLD,
-    Workload::new("build", Call::Build, Given::Random, Piece::Of(1)),
-    Workload::new("push_random", Call::Push, Given::Random, Piece::Of(1)),
-    Workload::new("push_ascending", Call::Push, Given::Ascending, Piece::Of(1)),
-    Workload::new("pop", Call::Pop, Given::HeapOrdered, Piece::Of(1)),
-    Workload::new("churn", Call::Churn, Given::HeapOrdered, Piece::Of(1)),
-    Workload::new("extend_64", Call::Extend, Given::Random, Piece::Of(64)),
-    Workload::new("extend_eighth", Call::Extend, Given::Random, Piece::Eighth),
-    Workload::new("append_64", Call::Append, Given::Random, Piece::Of(64)),
-    Workload::new("append_eighth", Call::Append, Given::Random, Piece::Eighth),
-    Workload::new("retain", Call::Retain, Given::HeapOrdered, Piece::Of(1)),
-    Workload::new(
-        "into_iter_sorted",
-        Call::Sorted,
-        Given::HeapOrdered,
-        Piece::Of(1),
-    ),
+pub const WORKLOADS: [Workload; 24] = [
+    Workload::on_numbers("hold", Call::Hold, Given::HeapOrdered).at_all_sizes(),
+    Workload::on_numbers("build", Call::Build, Given::Random).at_all_sizes(),
+    Workload::on_numbers("push_random", Call::Push, Given::Random).at_all_sizes(),
+    Workload::on_numbers("push_ascending", Call::Push, Given::Ascending),
+    Workload::on_numbers("pop", Call::Pop, Given::HeapOrdered).at_all_sizes(),
+    Workload::on_numbers("churn", Call::Churn, Given::HeapOrdered).at_all_sizes(),
+    Workload::on_numbers("extend_64", Call::Extend, Given::Random).by(Piece::Of(64)),
+    Workload::on_numbers("extend_eighth", Call::Extend, Given::Random).by(Piece::Eighth),
+    Workload::on_numbers("append_64", Call::Append, Given::Random).by(Piece::Of(64)),
+    Workload::on_numbers("append_eighth", Call::Append, Given::Random).by(Piece::Eighth),
+    Workload::on_numbers("retain", Call::Retain, Given::HeapOrdered),
+    Workload::on_numbers("into_iter_sorted", Call::Sorted, Given::HeapOrdered),
+    Workload::on(Kind::Entries, "build_entries", Call::Build),
+    Workload::on(Kind::Entries, "push_entries", Call::Push),
+    Workload::on(Kind::Entries, "pop_entries", Call::Pop),
+    Workload::on(Kind::Entries, "churn_entries", Call::Churn),
+    Workload::on(Kind::Records, "build_records", Call::Build),
+    Workload::on(Kind::Records, "push_records", Call::Push),
+    Workload::on(Kind::Records, "pop_records", Call::Pop),
+    Workload::on(Kind::Records, "churn_records", Call::Churn),
+    Workload::on(Kind::Strings, "build_strings", Call::Build),
+    Workload::on(Kind::Strings, "push_strings", Call::Push),
+    Workload::on(Kind::Strings, "pop_strings", Call::Pop),
+    Workload::on(Kind::Strings, "churn_strings", Call::Churn),
 ];
 
+/// The search that is a workload too, and its sizes.
+pub const SEARCH: &str = "shortest_path";
+pub const SEARCH_SIZES: &[usize] = SOME;
+
 /// The items of one run.
-pub struct Task<T> {
+pub struct Task<T: Item> {
     pub items: Vec<T>,
     /// What a churn pushes.
     pub more: Vec<T>,
     pub piece: usize,
+    /// The items, and those of `more`, as the library is handed them.
+    pub flat: T::Flat,
+    pub more_flat: T::Flat,
 }
 
-/// A call on the items of a task. It answers how many numbers it wrote.
-pub type Work<T> = fn(&Task<T>, &mut [T]) -> usize;
+impl<T: Item> Task<T> {
+    pub fn new(items: Vec<T>, more: Vec<T>, piece: usize) -> Task<T> {
+        Task {
+            flat: T::flat(&items),
+            more_flat: T::flat(&more),
+            items,
+            more,
+            piece,
+        }
+    }
+}
+
+/// A call on the items of a task. It returns how many marks it wrote.
+pub type Work<T> = fn(&Task<T>, &mut [<T as Item>::Mark]) -> usize;
 
 /// The call over the crate's heap of this arity, from 1 to 8.
 pub fn of_crate<T: Item>(call: Call, arity: usize) -> Work<T> {
@@ -115,6 +198,7 @@ pub fn of_std<T: Item>(call: Call) -> Work<T> {
 
 fn work<T: Item, Q: Queue<T>>(call: Call) -> Work<T> {
     match call {
+        Call::Copy => copy::<T>,
         Call::Hold => hold::<T, Q>,
         Call::Build => build::<T, Q>,
         Call::Push => push::<T, Q>,
@@ -134,86 +218,91 @@ fn held<T: Item, Q: Queue<T>>(task: &Task<T>) -> Q {
     heap
 }
 
-/// Copies the heap's slice out.
-fn written<T: Item, Q: Queue<T>>(heap: &Q, out: &mut [T]) -> usize {
-    let items = heap.as_slice();
-    out[..items.len()].copy_from_slice(items);
+/// Writes the marks of the items.
+fn written<T: Item>(items: &[T], out: &mut [T::Mark]) -> usize {
+    for (item, place) in items.iter().zip(out) {
+        *place = item.mark();
+    }
     items.len()
 }
 
-fn hold<T: Item, Q: Queue<T>>(task: &Task<T>, out: &mut [T]) -> usize {
-    let heap: Q = held(task);
-    written(&heap, out)
+fn copy<T: Item>(task: &Task<T>, out: &mut [T::Mark]) -> usize {
+    written(&task.items.clone(), out)
 }
 
-fn build<T: Item, Q: Queue<T>>(task: &Task<T>, out: &mut [T]) -> usize {
+fn hold<T: Item, Q: Queue<T>>(task: &Task<T>, out: &mut [T::Mark]) -> usize {
+    let heap: Q = held(task);
+    written(heap.as_slice(), out)
+}
+
+fn build<T: Item, Q: Queue<T>>(task: &Task<T>, out: &mut [T::Mark]) -> usize {
     counting::begin();
     let heap = Q::of(task.items.clone());
-    written(&heap, out)
+    written(heap.as_slice(), out)
 }
 
-fn push<T: Item, Q: Queue<T>>(task: &Task<T>, out: &mut [T]) -> usize {
+fn push<T: Item, Q: Queue<T>>(task: &Task<T>, out: &mut [T::Mark]) -> usize {
     counting::begin();
     let mut heap = Q::empty();
     for item in &task.items {
-        heap.push(*item);
+        heap.push(item.clone());
     }
-    written(&heap, out)
+    written(heap.as_slice(), out)
 }
 
-fn pop<T: Item, Q: Queue<T>>(task: &Task<T>, out: &mut [T]) -> usize {
+fn pop<T: Item, Q: Queue<T>>(task: &Task<T>, out: &mut [T::Mark]) -> usize {
     let mut heap: Q = held(task);
     let mut count = 0;
     while let Some(item) = heap.pop() {
-        out[count] = item;
+        out[count] = item.mark();
         count += 1;
     }
     count
 }
 
-fn churn<T: Item, Q: Queue<T>>(task: &Task<T>, out: &mut [T]) -> usize {
+fn churn<T: Item, Q: Queue<T>>(task: &Task<T>, out: &mut [T::Mark]) -> usize {
     let mut heap: Q = held(task);
     let mut count = 0;
     for item in &task.more {
-        heap.push(*item);
+        heap.push(item.clone());
         if let Some(greatest) = heap.pop() {
-            out[count] = greatest;
+            out[count] = greatest.mark();
             count += 1;
         }
     }
     count
 }
 
-fn extend<T: Item, Q: Queue<T>>(task: &Task<T>, out: &mut [T]) -> usize {
+fn extend<T: Item, Q: Queue<T>>(task: &Task<T>, out: &mut [T::Mark]) -> usize {
     counting::begin();
     let mut heap = Q::empty();
     for piece in task.items.chunks(task.piece) {
         heap.extend(piece);
     }
-    written(&heap, out)
+    written(heap.as_slice(), out)
 }
 
-fn append<T: Item, Q: Queue<T>>(task: &Task<T>, out: &mut [T]) -> usize {
+fn append<T: Item, Q: Queue<T>>(task: &Task<T>, out: &mut [T::Mark]) -> usize {
     counting::begin();
     let mut heap = Q::empty();
     for piece in task.items.chunks(task.piece) {
         let mut other = Q::of(piece.to_vec());
         heap.append(&mut other);
     }
-    written(&heap, out)
+    written(heap.as_slice(), out)
 }
 
-fn retain<T: Item, Q: Queue<T>>(task: &Task<T>, out: &mut [T]) -> usize {
+fn retain<T: Item, Q: Queue<T>>(task: &Task<T>, out: &mut [T::Mark]) -> usize {
     let mut heap: Q = held(task);
     heap.retain(T::is_odd);
-    written(&heap, out)
+    written(heap.as_slice(), out)
 }
 
-fn sorted<T: Item, Q: Queue<T>>(task: &Task<T>, out: &mut [T]) -> usize {
+fn sorted<T: Item, Q: Queue<T>>(task: &Task<T>, out: &mut [T::Mark]) -> usize {
     let heap: Q = held(task);
     let mut count = 0;
     for (item, place) in heap.into_iter_sorted().zip(out) {
-        *place = item;
+        *place = item.mark();
         count += 1;
     }
     count

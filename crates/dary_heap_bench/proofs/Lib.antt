@@ -1,0 +1,3 @@
+pub mod Churned
+pub mod Popped
+pub mod Written

@@ -1,0 +1,12 @@
+use Rattle.std.proofs.Common.{◌≡◌, length, drop, rules}
+use Rattle.std.proofs.lemmas.List.{length-take-le}
+use Rattle.dary_heap_bench.proofs.Written.{writes_front}
+use Rattle.dary_heap_bench.proofs.strings.churn.Goals as goal
+
+pub returns : goal.returns
+returns g c =
+    let l = c.loop-place in
+    let n = length c.args.more_ends.now in
+    let all : l.place ≡ n = search rules in
+    let behind : drop n l.out ≡ drop n c.args.out.now = rw all at l.invariant in
+    writes_front _ n c.args.out.now l.out c.requires (search rules) behind (length-take-le n l.out (search rules))

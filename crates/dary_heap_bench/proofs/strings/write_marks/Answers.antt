@@ -1,0 +1,15 @@
+use Rattle.std.proofs.Common.{◌≡◌, length, drop, rules}
+use Rattle.std.proofs.lemmas.List.{length-take-le}
+use Rattle.dary_heap_bench.proofs.Written.{behind_more, writes_front}
+use Rattle.dary_heap_bench.proofs.strings.write_marks.Goals as goal
+
+pub loop-place-preserved : goal.loop-place-preserved
+loop-place-preserved c = let l = c.loop-place in behind_more c.args.out.now l.out l.place _ l.invariant
+
+pub returns : goal.returns
+returns c =
+    let l = c.loop-place in
+    let n = length c.args.strings.now in
+    let all : l.place ≡ n = search rules in
+    let behind : drop n l.out ≡ drop n c.args.out.now = rw all at l.invariant in
+    writes_front _ n c.args.out.now l.out c.requires (search rules) behind (length-take-le n l.out (search rules))

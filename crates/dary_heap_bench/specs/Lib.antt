@@ -1,0 +1,2 @@
+pub mod Churning
+pub mod Writing
