@@ -56,6 +56,7 @@ mod tests {
         dheap_build_strings, dheap_churn_strings, dheap_copy_strings, dheap_pop_strings,
         dheap_push_strings,
     };
+    use dary_heap::sift::{ByOrd, is_heap};
     use std::test::Fail;
 
     const NOTHING: u64 = u64::MAX;
@@ -82,6 +83,7 @@ mod tests {
         assert_eq!(rt; out, items);
         assert_eq!(rt; dheap_build_entries(alloc, 1, &items, &mut out), 4);
         assert_eq!(rt; out, heap);
+        assert!(rt; is_heap::<Entry, ByOrd, 3>(&heap, &mut ByOrd::new()));
         assert_eq!(rt; dheap_hold_entries(alloc, 3, &heap, &mut out), 4);
         assert_eq!(rt; out, heap);
         assert_eq!(rt; dheap_push_entries(alloc, 1, &items, &mut out), 4);
@@ -120,6 +122,7 @@ mod tests {
         assert_eq!(rt; keys(&out), [(3, 30), (-4, 40), (9, 90)]);
         assert_eq!(rt; dheap_build_records(alloc, 1, &items, &mut out), 3);
         assert_eq!(rt; keys(&out), descending);
+        assert!(rt; is_heap::<Record, ByOrd, 3>(&heap, &mut ByOrd::new()));
         assert_eq!(rt; dheap_hold_records(alloc, 3, &heap, &mut out), 3);
         assert_eq!(rt; keys(&out), descending);
         assert_eq!(rt; dheap_push_records(alloc, 1, &items, &mut out), 3);
