@@ -2,19 +2,19 @@
 //! calls.
 //!
 //! Each function does one whole workload: it makes a heap of the items, works on it, and writes items out.
-//! So nothing but structs of numbers, pointers and lengths crosses, and no heap outlives a call. It answers
+//! So nothing but structs of numbers, pointers and lengths crosses, and no heap outlives a call. It returns
 //! how many items it wrote to the front of `out`, and what stands behind is as it was.
 //!
 //! - [`work`] has the workloads, for any item that is copied.
 //! - [`entries`] has them on a priority and a name, and [`records`] on a key and seven words.
 //! - [`strings`] has them on strings, of each of which a number is written.
 //!
-//! The arity is 1 to 8. At any other, where `out` is too short for what may come, and where memory is
-//! refused, a function answers `u64::MAX` and writes nothing.
+//! The arity is 1 to 8. At any other, if `out` is too short for what may come, and if memory allocation
+//! fails, a function returns `u64::MAX` and writes nothing.
 #![tactic(auto)]
 
-/// Does a piece of work at the arity that a number names, 1 to 8. At any other, and where the items may
-/// not fit, it is refused.
+/// Does a piece of work at the arity that a number names, 1 to 8. At any other, and if the items may not
+/// fit, it is refused.
 macro_rules! at_arity {
     ($arity:expr, $fits:expr, $work:ident<$($item:ty),*>($($given:expr),*)) => {
         if $fits {
@@ -134,7 +134,7 @@ mod tests {
             1
         );
         assert_eq!(rt; keys(&out), [(11, 7), (3, 30), (-4, 40)]);
-        assert_eq!(rt; dheap_pop_records(alloc, 0, &heap, &mut out), NOTHING);
+        assert_eq!(rt; dheap_build_records(alloc, 0, &items, &mut out), NOTHING);
         Ok(())
     }
 

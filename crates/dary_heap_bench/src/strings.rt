@@ -1,8 +1,8 @@
 //! The workloads on strings. They come in as their bytes, one string behind another, and the end of each;
 //! of each string that is written its mark goes out.
 //!
-//! A string is made when it is needed, by each of these. Where the ends don't rise within the bytes, or
-//! a string isn't UTF-8, a function is refused.
+//! If the ends don't rise within the bytes, or a string isn't UTF-8, a function is refused. The contracts say
+//! how many marks are written, and where, but not which: the bench compares them.
 ghost use Rattle.std.specs.Prelude.{◌≡◌, ◌≢◌, ◌^◌, ◌-◌, ◌≤◌, length, IfOk, OnErr};
 ghost use Rattle.dary_heap_bench.specs.Writing.{Writes, IsAnswered};
 
@@ -145,7 +145,7 @@ fn pop<const D: usize>(
 }
 
 /// The mark of the string that comes out after each of `more` went into a heap that is built of the
-/// strings. Where it is refused, some may have been written.
+/// strings. If it is refused, some may have been written.
 #[unsafe(no_mangle)]
 pub extern "C" fn dheap_churn_strings(
     alloc: Global,
