@@ -7,7 +7,7 @@ use std::time::{Duration, Instant};
 /// For how long a line is measured at least, if its runs are short.
 const AT_LEAST: Duration = Duration::from_millis(300);
 /// After how long a line has no further round, if it has had `FEWEST`.
-const ENOUGH: Duration = Duration::from_secs(8);
+const ENOUGH: Duration = Duration::from_secs(6);
 const FEWEST: usize = 3;
 
 /// Less than this part of the time of a set-up can't be told from it.
