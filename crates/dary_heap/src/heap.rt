@@ -160,6 +160,7 @@ impl<T: Ord, const D: usize> DaryHeap<T, D> {
     ///
     /// It takes at most the arity times the depth of the last place that remains, in comparisons. The
     /// capacity stays.
+    #[inline]
     pub fn pop(&mut self) -> Option<T>
         ensures variant { IsSome result ↔ (0 < length self.old.items) }
         ensures first { result ≡ slice_get self.old.items 0 }
