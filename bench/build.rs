@@ -1,6 +1,6 @@
-//! Links the static libraries `dary_heap_c` and `dary_heap_bench`, which `rt lib` leaves in `out/` of
-//! their crates, and the toolchain's C part, through which they take memory. `DARY_HEAP_C`,
-//! `DARY_HEAP_BENCH` and `RATTLE_C` name the folders where the three lie.
+//! Links the static library `dary_heap_bench`, which `rt lib` leaves in `out/` of its crate, and the
+//! toolchain's C part, through which it takes memory. `DARY_HEAP_BENCH` and `RATTLE_C` name the folders
+//! where the two lie.
 //!
 //! `src/rivals.cpp` is compiled if there is a C++ compiler, which `CXX` may name. `CXXSTDLIB` names its
 //! library if that isn't the usual one.
@@ -10,17 +10,12 @@ use std::path::{Path, PathBuf};
 use std::process::{exit, Command};
 
 fn main() {
-    let crates = Path::new(env!("CARGO_MANIFEST_DIR")).join("../crates");
-    let beside = |name: &str| crates.join(name).join("out");
+    let beside = Path::new(env!("CARGO_MANIFEST_DIR")).join("../crates/dary_heap_bench/out");
     let Some(toolchain) = folder("RATTLE_C") else {
         fail("RATTLE_C has to name the folder with the toolchain's C part, see README.md");
     };
     link(
-        &folder("DARY_HEAP_C").unwrap_or(beside("dary_heap_c")),
-        "dary_heap_c",
-    );
-    link(
-        &folder("DARY_HEAP_BENCH").unwrap_or(beside("dary_heap_bench")),
+        &folder("DARY_HEAP_BENCH").unwrap_or(beside),
         "dary_heap_bench",
     );
     link(&toolchain, "libc_c");

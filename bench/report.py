@@ -119,10 +119,14 @@ def power(items):
 # The tables.
 
 
+def table(rows):
+    return "\n".join(f"|{'|'.join(row)}|" for row in rows)
+
+
 def rows_of(heads, rows):
     """A table in Markdown. The first two columns are words."""
     marks = ["---", "---", *["--:"] * (len(heads) - 2)]
-    return "\n".join("| " + " | ".join(row) + " |" for row in [heads, marks, *rows])
+    return table([heads, marks, *rows])
 
 
 def heads_of(name, arities):
@@ -257,7 +261,7 @@ def pops(lines):
             row += [f"{line.time(who):.0f}" for line in at_arities(lines, "pop", items)]
         rows.append(row)
     marks = ["--:"] * len(heads)
-    return "\n".join("| " + " | ".join(row) + " |" for row in [heads, marks, *rows])
+    return table([heads, marks, *rows])
 
 
 BLOCKS = {

@@ -1,14 +1,26 @@
-//! The heap of this repository, as the functions of the static libraries `dary_heap_c`, for numbers, and
-//! `dary_heap_bench`, for wider items.
+//! The heap of this repository, as the functions of the static library `dary_heap_bench`.
 
 use crate::items::{Entry, Item, Record};
 use crate::search::Graph;
 use crate::workload::{Call, Task};
 
-/// A function of an arity, the items, where numbers are written to, and the length of a piece.
-type OfItems = unsafe extern "C" fn(usize, *const i64, usize, *mut i64, usize, usize) -> u64;
-
+/// Functions of an arity, the items, and where items are written to.
 macro_rules! functions_of_items {
+    ($item:ty: $($name:ident)*) => {
+        extern "C" {
+            $(fn $name(
+                arity: usize,
+                items: *const $item,
+                items_len: usize,
+                out: *mut $item,
+                out_len: usize,
+            ) -> u64;)*
+        }
+    };
+}
+
+/// The same with the length of a piece.
+macro_rules! functions_of_pieces {
     ($($name:ident)*) => {
         extern "C" {
             $(fn $name(
@@ -23,16 +35,17 @@ macro_rules! functions_of_items {
     };
 }
 
+/// The same with what a churn pushes.
 macro_rules! functions_of_churn {
-    ($($name:ident)*) => {
+    ($item:ty: $($name:ident)*) => {
         extern "C" {
             $(fn $name(
                 arity: usize,
-                items: *const i64,
+                items: *const $item,
                 items_len: usize,
-                more: *const i64,
+                more: *const $item,
                 more_len: usize,
-                out: *mut i64,
+                out: *mut $item,
                 out_len: usize,
             ) -> u64;)*
         }
@@ -61,62 +74,35 @@ macro_rules! functions_of_graph {
     };
 }
 
-functions_of_items! {
-    dheap_hold_i64 dheap_hold_counted
-    dheap_build_i64 dheap_build_counted
-    dheap_push_i64 dheap_push_counted
-    dheap_pop_i64 dheap_pop_counted
-    dheap_extend_i64 dheap_extend_counted
-    dheap_append_i64 dheap_append_counted
-    dheap_retain_i64 dheap_retain_counted
-    dheap_sorted_i64 dheap_sorted_counted
+functions_of_items! { i64:
+    bench_hold_i64 bench_hold_counted
+    bench_build_i64 bench_build_counted
+    bench_push_i64 bench_push_counted
+    bench_pop_i64 bench_pop_counted
+    bench_retain_i64 bench_retain_counted
+    bench_sorted_i64 bench_sorted_counted
 }
 
-functions_of_churn! { dheap_churn_i64 dheap_churn_counted }
-
-functions_of_graph! { dheap_shortest dheap_shortest_counted }
-
-/// Functions of an arity, wide items, and where items are written to.
-macro_rules! functions_of_wide {
-    ($item:ty: $($name:ident)*) => {
-        extern "C" {
-            $(fn $name(
-                arity: usize,
-                items: *const $item,
-                items_len: usize,
-                out: *mut $item,
-                out_len: usize,
-            ) -> u64;)*
-        }
-    };
+functions_of_pieces! {
+    bench_extend_i64 bench_extend_counted
+    bench_append_i64 bench_append_counted
 }
 
-/// The same with what a churn pushes.
-macro_rules! churns_of_wide {
-    ($($item:ty: $name:ident)*) => {
-        extern "C" {
-            $(fn $name(
-                arity: usize,
-                items: *const $item,
-                items_len: usize,
-                more: *const $item,
-                more_len: usize,
-                out: *mut $item,
-                out_len: usize,
-            ) -> u64;)*
-        }
-    };
+functions_of_items! { Entry:
+    bench_copy_entries bench_hold_entries bench_build_entries bench_push_entries bench_pop_entries
 }
 
-functions_of_wide! { Entry:
-    dheap_copy_entries dheap_hold_entries dheap_build_entries dheap_push_entries dheap_pop_entries
+functions_of_items! { Record:
+    bench_copy_records bench_hold_records bench_build_records bench_push_records bench_pop_records
 }
 
-functions_of_wide! { Record:
-    dheap_copy_records dheap_hold_records dheap_build_records dheap_push_records dheap_pop_records
-}
+functions_of_churn! { i64: bench_churn_i64 bench_churn_counted }
 
-churns_of_wide! { Entry: dheap_churn_entries Record: dheap_churn_records }
+functions_of_churn! { Entry: bench_churn_entries }
+
+functions_of_churn! { Record: bench_churn_records }
+
+functions_of_graph! { bench_shortest bench_shortest_counted }
 
 /// Functions of an arity, strings as their bytes and ends, and where marks are written to.
 macro_rules! functions_of_strings {
@@ -136,11 +122,11 @@ macro_rules! functions_of_strings {
 }
 
 functions_of_strings! {
-    dheap_copy_strings dheap_build_strings dheap_push_strings dheap_pop_strings
+    bench_copy_strings bench_build_strings bench_push_strings bench_pop_strings
 }
 
 extern "C" {
-    fn dheap_churn_strings(
+    fn bench_churn_strings(
         arity: usize,
         bytes: *const u8,
         bytes_len: usize,
@@ -178,41 +164,41 @@ impl InLibrary for i64 {
 impl InLibrary for Entry {
     fn run(call: Call, arity: usize, task: &Task<Entry>, out: &mut [Entry]) -> Option<u64> {
         let function = match call {
-            Call::Copy => dheap_copy_entries,
-            Call::Hold => dheap_hold_entries,
-            Call::Build => dheap_build_entries,
-            Call::Push => dheap_push_entries,
-            Call::Pop => dheap_pop_entries,
-            Call::Churn => return churn_of_wide(dheap_churn_entries, arity, task, out),
+            Call::Copy => bench_copy_entries,
+            Call::Hold => bench_hold_entries,
+            Call::Build => bench_build_entries,
+            Call::Push => bench_push_entries,
+            Call::Pop => bench_pop_entries,
+            Call::Churn => return churn(bench_churn_entries, arity, task, out),
             _ => return None,
         };
-        of_wide(function, arity, task, out)
+        of_items(function, arity, task, out)
     }
 }
 
 impl InLibrary for Record {
     fn run(call: Call, arity: usize, task: &Task<Record>, out: &mut [[u64; 8]]) -> Option<u64> {
         let function = match call {
-            Call::Copy => dheap_copy_records,
-            Call::Hold => dheap_hold_records,
-            Call::Build => dheap_build_records,
-            Call::Push => dheap_push_records,
-            Call::Pop => dheap_pop_records,
-            Call::Churn => return churn_of_wide(dheap_churn_records, arity, task, out),
+            Call::Copy => bench_copy_records,
+            Call::Hold => bench_hold_records,
+            Call::Build => bench_build_records,
+            Call::Push => bench_push_records,
+            Call::Pop => bench_pop_records,
+            Call::Churn => return churn(bench_churn_records, arity, task, out),
             _ => return None,
         };
-        of_wide(function, arity, task, out)
+        of_items(function, arity, task, out)
     }
 }
 
 impl InLibrary for String {
     fn run(call: Call, arity: usize, task: &Task<String>, out: &mut [u64]) -> Option<u64> {
         let function = match call {
-            Call::Copy => dheap_copy_strings,
+            Call::Copy => bench_copy_strings,
             // It takes no heap as it is, so it builds.
-            Call::Hold | Call::Build => dheap_build_strings,
-            Call::Push => dheap_push_strings,
-            Call::Pop => dheap_pop_strings,
+            Call::Hold | Call::Build => bench_build_strings,
+            Call::Push => bench_push_strings,
+            Call::Pop => bench_pop_strings,
             Call::Churn => return churn_of_strings(arity, task, out),
             _ => return None,
         };
@@ -245,19 +231,29 @@ fn on_numbers(
     task: &Task<i64>,
     out: &mut [i64],
 ) -> Option<u64> {
-    let functions: [OfItems; 2] = match call {
+    let which = answer as usize;
+    let functions: [OfItems<i64>; 2] = match call {
         Call::Copy => return None,
-        Call::Hold => [dheap_hold_i64, dheap_hold_counted],
-        Call::Build => [dheap_build_i64, dheap_build_counted],
-        Call::Push => [dheap_push_i64, dheap_push_counted],
-        Call::Pop => [dheap_pop_i64, dheap_pop_counted],
-        Call::Churn => return churn(answer, arity, task, out),
-        Call::Extend => [dheap_extend_i64, dheap_extend_counted],
-        Call::Append => [dheap_append_i64, dheap_append_counted],
-        Call::Retain => [dheap_retain_i64, dheap_retain_counted],
-        Call::Sorted => [dheap_sorted_i64, dheap_sorted_counted],
+        Call::Hold => [bench_hold_i64, bench_hold_counted],
+        Call::Build => [bench_build_i64, bench_build_counted],
+        Call::Push => [bench_push_i64, bench_push_counted],
+        Call::Pop => [bench_pop_i64, bench_pop_counted],
+        Call::Churn => {
+            let functions = [bench_churn_i64, bench_churn_counted];
+            return churn(functions[which], arity, task, out);
+        }
+        Call::Extend => {
+            let functions = [bench_extend_i64, bench_extend_counted];
+            return of_pieces(functions[which], arity, task, out);
+        }
+        Call::Append => {
+            let functions = [bench_append_i64, bench_append_counted];
+            return of_pieces(functions[which], arity, task, out);
+        }
+        Call::Retain => [bench_retain_i64, bench_retain_counted],
+        Call::Sorted => [bench_sorted_i64, bench_sorted_counted],
     };
-    of_items(functions[answer as usize], arity, task, out)
+    of_items(functions[which], arity, task, out)
 }
 
 /// Whether marks of items have the size and the alignment of the items. They have the layout too.
@@ -265,12 +261,12 @@ const fn is_alike<T: Item>() -> bool {
     size_of::<T>() == size_of::<T::Mark>() && align_of::<T>() == align_of::<T::Mark>()
 }
 
-type OfWide<T> = unsafe extern "C" fn(usize, *const T, usize, *mut T, usize) -> u64;
-type ChurnOfWide<T> =
-    unsafe extern "C" fn(usize, *const T, usize, *const T, usize, *mut T, usize) -> u64;
+type OfItems<T> = unsafe extern "C" fn(usize, *const T, usize, *mut T, usize) -> u64;
+type OfPieces = unsafe extern "C" fn(usize, *const i64, usize, *mut i64, usize, usize) -> u64;
+type Churn<T> = unsafe extern "C" fn(usize, *const T, usize, *const T, usize, *mut T, usize) -> u64;
 
-fn of_wide<T: Item>(
-    function: OfWide<T>,
+fn of_items<T: Item>(
+    function: OfItems<T>,
     arity: usize,
     task: &Task<T>,
     out: &mut [T::Mark],
@@ -278,12 +274,22 @@ fn of_wide<T: Item>(
     const { assert!(is_alike::<T>()) };
     let items = &task.items;
     let place = out.as_mut_ptr().cast();
-    // SAFETY: as in `of_items`.
+    // SAFETY: the function reads the items and writes below the length of `out`, and keeps neither.
+    // The items are heap ordered at the arity where the workload says so.
     granted(unsafe { function(arity, items.as_ptr(), items.len(), place, out.len()) })
 }
 
-fn churn_of_wide<T: Item>(
-    function: ChurnOfWide<T>,
+fn of_pieces(function: OfPieces, arity: usize, task: &Task<i64>, out: &mut [i64]) -> Option<u64> {
+    let items = &task.items;
+    let place = out.as_mut_ptr();
+    // SAFETY: as in `of_items`.
+    granted(unsafe {
+        function(arity, items.as_ptr(), items.len(), place, out.len(), task.piece)
+    })
+}
+
+fn churn<T: Item>(
+    function: Churn<T>,
     arity: usize,
     task: &Task<T>,
     out: &mut [T::Mark],
@@ -308,7 +314,7 @@ fn churn_of_strings(arity: usize, task: &Task<String>, out: &mut [u64]) -> Optio
     let (items, more) = (&task.flat, &task.more_flat);
     // SAFETY: as in `of_items`.
     granted(unsafe {
-        dheap_churn_strings(
+        bench_churn_strings(
             arity,
             items.bytes.as_ptr(),
             items.bytes.len(),
@@ -328,42 +334,9 @@ fn granted(answer: u64) -> Option<u64> {
     (answer != u64::MAX).then_some(answer)
 }
 
-fn of_items(function: OfItems, arity: usize, task: &Task<i64>, out: &mut [i64]) -> Option<u64> {
-    let items = &task.items;
-    // SAFETY: the function reads the items and writes below the length of `out`, and keeps neither.
-    // The items are heap ordered at the arity where the workload says so.
-    granted(unsafe {
-        function(
-            arity,
-            items.as_ptr(),
-            items.len(),
-            out.as_mut_ptr(),
-            out.len(),
-            task.piece,
-        )
-    })
-}
-
-fn churn(answer: Answer, arity: usize, task: &Task<i64>, out: &mut [i64]) -> Option<u64> {
-    let function = [dheap_churn_i64, dheap_churn_counted][answer as usize];
-    let (items, more) = (&task.items, &task.more);
-    // SAFETY: as in `of_items`.
-    granted(unsafe {
-        function(
-            arity,
-            items.as_ptr(),
-            items.len(),
-            more.as_ptr(),
-            more.len(),
-            out.as_mut_ptr(),
-            out.len(),
-        )
-    })
-}
-
 /// The searches of the graph. None if the library refuses them.
 pub fn searches(answer: Answer, arity: usize, graph: &Graph, out: &mut [u64]) -> Option<u64> {
-    let function = [dheap_shortest, dheap_shortest_counted][answer as usize];
+    let function = [bench_shortest, bench_shortest_counted][answer as usize];
     // SAFETY: as in `of_items`; the offsets rise to the number of edges, and starts and targets are
     // nodes.
     granted(unsafe {

@@ -1,37 +1,47 @@
-/* Heaps of numbers of 64 bits, in which each place has up to `arity` children, and the search for a
- * cheapest walk.
+/* Heap algorithms on arrays, in place.
  *
- * Each function does one whole piece of work: it makes a heap of numbers, works on it, and writes
- * numbers out. No heap outlives a call, and a call keeps no pointer.
+ * A heap is an array in which no item comes before its parent: the item at place i above 0 has its parent
+ * at place (i - 1) / arity. So the first item is one that no other comes before. The array is yours: no
+ * function allocates memory or keeps a pointer.
  *
- * What a function answers
+ * The functions do what make_heap, push_heap, pop_heap, sort_heap and is_heap do in C++, where the arity
+ * is 2. Here it is the first argument, from 1 to 8.
  *
- * A function whose name ends in `_i64`, and `dheap_shortest`, answers how many numbers it wrote to the
- * front of `out`. The numbers of `out` behind them stay as they were. A function whose name ends in
- * `_counted` does the same work, answers how many comparisons it made once the items were in place, and
- * writes nothing.
+ * Which item comes first
  *
- * Each answers UINT64_MAX, and writes nothing, where memory is refused, where the arity is none that it
- * knows, and where `out` is too short: shorter than `items`, or for churn than `more`, or for the search
- * than `froms`.
+ *   _i64             of int64_t, the greatest number
+ *   _least_i64       of int64_t, the least number
+ *   _entries         of struct dheap_entry, the greatest key
+ *   _least_entries   of struct dheap_entry, the least key
  *
- * What a caller has to uphold, for each function
+ * The value of an entry is moved with its key and never read. Of items with equal keys any may come
+ * first. A function says nothing of their order.
  *
- * - A pointer with its length is a readable array of so many numbers, aligned as C aligns them. It isn't
- *   null, even where the length is 0. What lies behind `out` is writable, and overlaps nothing else that
- *   is passed. No one else writes these arrays during the call, and no one else reads `out`.
- * - `malloc`, `realloc` and `free` come from one allocator. A block of 8 bytes or a multiple is aligned
- *   to 8 bytes, and one of 16 or a multiple to 16.
- * - It isn't called from a signal handler, nor from the forked child of a process with threads. Several
- *   threads may call at a time.
+ * What a function returns
  *
- * Where it is said that items are heap ordered at the arity, the caller upholds that too: for each i
- * above 0, items[i] is at most items[(i - 1) / arity]. What `hold`, `build`, `push`, `extend`, `append`
- * and `retain` write is so. Nothing checks it, and where it isn't so nothing is promised.
+ * true if the arity is 1 to 8. At any other arity the function returns false and changes nothing.
+ * dheap_is_heap_* returns an int of three values instead: see there.
+ *
+ * What you have to uphold
+ *
+ * - `items` points to `len` items, aligned as C aligns them, and isn't null, even if `len` is 0. For all
+ *   functions but dheap_is_heap_* they are writable.
+ * - Nobody else writes these items during the call, and where the function may write, nobody reads them.
+ *   Calls on different arrays may run at the same time.
+ *
+ * Nothing else is a precondition. If the items aren't a heap where a function says that they are, it moves
+ * them all the same, loses none and doubles none, and what it says of heap order afterwards doesn't hold.
+ *
+ * Costs
+ *
+ * In comparisons, at most. The depth of a place is how many steps it is from there to place 0: from arity
+ * 2 on less than log(arity * n) to the base of the arity, for a place below n. At arity 1 it is the place.
+ * A function makes no recursive call, and takes a constant amount of stack.
  */
 #ifndef DARY_HEAP_C_H
 #define DARY_HEAP_C_H
 
+#include <stdbool.h>
 #include <stddef.h>
 #include <stdint.h>
 
@@ -39,89 +49,64 @@
 extern "C" {
 #endif
 
-/* Takes the items, which are heap ordered at the arity, as a heap, and writes its slice: the items as
- * they are. `extra` isn't read. */
-uint64_t dheap_hold_i64(size_t arity, const int64_t *items, size_t items_len, int64_t *out, size_t out_len,
-                        size_t extra);
+/* An item that is compared by its key alone. */
+struct dheap_entry {
+    int64_t key;
+    uint64_t value; /* what you want to know of it: a number, an index, an address */
+};
 
-/* Builds a heap of the items, and writes its slice: the same numbers, heap ordered at the arity. `extra`
- * isn't read. */
-uint64_t dheap_build_i64(size_t arity, const int64_t *items, size_t items_len, int64_t *out, size_t out_len,
-                         size_t extra);
-
-/* Pushes the items onto an empty heap, one after another, and writes its slice: the same numbers, heap
- * ordered at the arity. `extra` isn't read. */
-uint64_t dheap_push_i64(size_t arity, const int64_t *items, size_t items_len, int64_t *out, size_t out_len,
-                        size_t extra);
-
-/* Takes the items, which are heap ordered at the arity, as a heap, and pops until none is left: the same
- * numbers, in descending order. `extra` isn't read. */
-uint64_t dheap_pop_i64(size_t arity, const int64_t *items, size_t items_len, int64_t *out, size_t out_len,
-                       size_t extra);
-
-/* Takes the items, which are heap ordered at the arity, as a heap, and goes through its sorted iterator:
- * the same numbers, in descending order. `extra` isn't read. */
-uint64_t dheap_sorted_i64(size_t arity, const int64_t *items, size_t items_len, int64_t *out, size_t out_len,
-                          size_t extra);
-
-/* Extends an empty heap by each piece of `extra` items, of which the last may be shorter, and writes its
- * slice: the same numbers, heap ordered at the arity. It is refused where `extra` is 0. */
-uint64_t dheap_extend_i64(size_t arity, const int64_t *items, size_t items_len, int64_t *out, size_t out_len,
-                          size_t extra);
-
-/* Appends to an empty heap a heap that is built of each such piece, and writes its slice: the same
- * numbers, heap ordered at the arity. It is refused where `extra` is 0. */
-uint64_t dheap_append_i64(size_t arity, const int64_t *items, size_t items_len, int64_t *out, size_t out_len,
-                          size_t extra);
-
-/* Takes the items, which are heap ordered at the arity, as a heap, retains the odd ones, and writes its
- * slice: just the odd numbers among the items, heap ordered at the arity. `extra` isn't read. */
-uint64_t dheap_retain_i64(size_t arity, const int64_t *items, size_t items_len, int64_t *out, size_t out_len,
-                          size_t extra);
-
-/* Takes the items, which are heap ordered at the arity, as a heap, and for each number of `more` pushes
- * it and pops a greatest, which is written. */
-uint64_t dheap_churn_i64(size_t arity, const int64_t *items, size_t items_len, const int64_t *more,
-                         size_t more_len, int64_t *out, size_t out_len);
-
-/* Writes, for each i, the least cost of a walk from node froms[i] to tos[i] of a graph, and UINT64_MAX
- * where no walk leads there.
+/* dheap_make_*: makes a heap of the items. Items that are a heap already stay where they are.
  *
- * Node u, below offsets_len - 1, has the edges from offsets[u] up to but not offsets[u + 1], each with a
- * target and a cost. The caller upholds that no offset is greater than the next, that none is greater
- * than targets_len, that costs_len is targets_len and tos_len is froms_len, and that each target and
- * each of `froms` is a node. The arity is 3. It is refused too where the cost of a walk to a node that
- * is reached before the goal comes to SIZE_MAX with one edge more. */
-uint64_t dheap_shortest(size_t arity, const size_t *offsets, size_t offsets_len, const size_t *targets,
-                        size_t targets_len, const size_t *costs, size_t costs_len, const size_t *froms,
-                        size_t froms_len, const size_t *tos, size_t tos_len, uint64_t *out, size_t out_len);
+ * Cost: 2 * (len - 1) from arity 2 on; len * (len - 1) / 2 at arity 1. */
+bool dheap_make_i64(size_t arity, int64_t *items, size_t len);
+bool dheap_make_least_i64(size_t arity, int64_t *items, size_t len);
+bool dheap_make_entries(size_t arity, struct dheap_entry *items, size_t len);
+bool dheap_make_least_entries(size_t arity, struct dheap_entry *items, size_t len);
 
-/* The comparisons of the same work. They take what those above take, and ask the same of it. hold makes
- * none. For n items build makes at most 2 * (n - 1) from arity 2 on, and n * (n - 1) / 2 at arity 1. A push
- * onto n items makes at most as many as place n is deep, and a pop from n items at most the arity times the
- * depth of place n - 2. */
-uint64_t dheap_hold_counted(size_t arity, const int64_t *items, size_t items_len, int64_t *out,
-                            size_t out_len, size_t extra);
-uint64_t dheap_build_counted(size_t arity, const int64_t *items, size_t items_len, int64_t *out,
-                             size_t out_len, size_t extra);
-uint64_t dheap_push_counted(size_t arity, const int64_t *items, size_t items_len, int64_t *out,
-                            size_t out_len, size_t extra);
-uint64_t dheap_pop_counted(size_t arity, const int64_t *items, size_t items_len, int64_t *out,
-                           size_t out_len, size_t extra);
-uint64_t dheap_sorted_counted(size_t arity, const int64_t *items, size_t items_len, int64_t *out,
-                              size_t out_len, size_t extra);
-uint64_t dheap_extend_counted(size_t arity, const int64_t *items, size_t items_len, int64_t *out,
-                              size_t out_len, size_t extra);
-uint64_t dheap_append_counted(size_t arity, const int64_t *items, size_t items_len, int64_t *out,
-                              size_t out_len, size_t extra);
-uint64_t dheap_retain_counted(size_t arity, const int64_t *items, size_t items_len, int64_t *out,
-                              size_t out_len, size_t extra);
-uint64_t dheap_churn_counted(size_t arity, const int64_t *items, size_t items_len, const int64_t *more,
-                             size_t more_len, int64_t *out, size_t out_len);
-uint64_t dheap_shortest_counted(size_t arity, const size_t *offsets, size_t offsets_len,
-                                const size_t *targets, size_t targets_len, const size_t *costs,
-                                size_t costs_len, const size_t *froms, size_t froms_len, const size_t *tos,
-                                size_t tos_len, uint64_t *out, size_t out_len);
+/* dheap_push_*: adds the last item to the heap of the len - 1 items before it. So write the new item
+ * behind the heap, and call this with its length counted in.
+ *
+ * Cost: the depth of place len - 1. */
+bool dheap_push_i64(size_t arity, int64_t *items, size_t len);
+bool dheap_push_least_i64(size_t arity, int64_t *items, size_t len);
+bool dheap_push_entries(size_t arity, struct dheap_entry *items, size_t len);
+bool dheap_push_least_entries(size_t arity, struct dheap_entry *items, size_t len);
+
+/* dheap_pop_*: moves the first item of the heap to items[len - 1]. The len - 1 items before it are a heap
+ * afterwards.
+ *
+ * Cost: the arity times the depth of place len - 2. */
+bool dheap_pop_i64(size_t arity, int64_t *items, size_t len);
+bool dheap_pop_least_i64(size_t arity, int64_t *items, size_t len);
+bool dheap_pop_entries(size_t arity, struct dheap_entry *items, size_t len);
+bool dheap_pop_least_entries(size_t arity, struct dheap_entry *items, size_t len);
+
+/* dheap_replace_*: the items were a heap, and then items[0] was overwritten by anything. They are a heap
+ * afterwards. It is less work than a pop and a push.
+ *
+ * Cost: the arity times the depth of place len - 1. */
+bool dheap_replace_i64(size_t arity, int64_t *items, size_t len);
+bool dheap_replace_least_i64(size_t arity, int64_t *items, size_t len);
+bool dheap_replace_entries(size_t arity, struct dheap_entry *items, size_t len);
+bool dheap_replace_least_entries(size_t arity, struct dheap_entry *items, size_t len);
+
+/* dheap_sort_*: sorts a heap. What comes first in the heap is last afterwards: without `least` the items
+ * ascend, and with it they descend. They are no heap any more. The sort isn't stable.
+ *
+ * Cost: that of a pop at each length from len down to 2. */
+bool dheap_sort_i64(size_t arity, int64_t *items, size_t len);
+bool dheap_sort_least_i64(size_t arity, int64_t *items, size_t len);
+bool dheap_sort_entries(size_t arity, struct dheap_entry *items, size_t len);
+bool dheap_sort_least_entries(size_t arity, struct dheap_entry *items, size_t len);
+
+/* dheap_is_heap_*: returns 1 if the items are a heap, 0 if they aren't, and -1 if the arity isn't 1 to 8.
+ * Compare the answer with 1: in an `if` alone -1 counts as true.
+ *
+ * Cost: len - 1. */
+int dheap_is_heap_i64(size_t arity, const int64_t *items, size_t len);
+int dheap_is_heap_least_i64(size_t arity, const int64_t *items, size_t len);
+int dheap_is_heap_entries(size_t arity, const struct dheap_entry *items, size_t len);
+int dheap_is_heap_least_entries(size_t arity, const struct dheap_entry *items, size_t len);
 
 #ifdef __cplusplus
 }

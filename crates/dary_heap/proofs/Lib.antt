@@ -1,4 +1,3 @@
-pub mod Answered
 pub mod Asking
 pub mod Callable
 pub mod Cloning
@@ -10,7 +9,7 @@ pub mod Iterating
 pub mod Order
 pub mod Popping
 pub mod Place
-pub mod Reversed
+pub mod Callers
 pub mod Rising
 pub mod Row
 pub mod Runs

@@ -1,11 +1,12 @@
 //! The heap.
 //!
-//! A clause sees a heap as its `Contents`: its items in the order in which they are stored, how many
-//! there is room for, and how many comparisons it made. The slice is always heap ordered, so its first
-//! item is one that no other exceeds.
+//! A clause sees a heap as its `Contents`: its items in the order in which they are stored, how
+//! many there is room for, and how many comparisons it made. The slice is always heap ordered, so
+//! its first item is a greatest one.
 //!
-//! Names and behaviour of the calls are those of std's `BinaryHeap` and of the Rust crate `dary_heap`.
-//! `docs/RULES.md` has the rules that they follow, and `docs/DIFFERENCES.md` what differs from the crate.
+//! Names and behaviour of the calls are those of std's `BinaryHeap` and of the Rust crate
+//! `dary_heap`. `docs/RULES.md` has the rules that they follow, and `docs/DIFFERENCES.md` what
+//! differs from the crate.
 ghost use Rattle.std.specs.Prelude.{◌≡◌, ◌+◌, ◌-◌, ◌<◌, ◌≤◌, ◌↔◌, [], ◌∷◌, ℕ, length, slice_get, vec_capacity, Some, IsSome, IfSome, IfNone, OnOk, OnErr, IfErr, IsOk, is_ok, if◌then◌else◌, ◌==◌};
 ghost use Rattle.std.specs.Option.{option_copied};
 ghost use Rattle.dary_heap.specs.Bag.{IsSameBag, IsGreatest};
@@ -23,21 +24,66 @@ mod convert;
 mod filter;
 mod join;
 
-/// A priority queue: a greatest item comes out first.
+/// A priority queue. [`pop`](DaryHeap::pop) returns a greatest item: one that no other is strictly
+/// greater than.
 ///
-/// Its items lie in one vector, read as a tree in which each place has up to `D` children. A greater
-/// arity makes the tree flatter: a push takes fewer comparisons, a pop more. Arity 0 acts as 1. Items
-/// must not change their order while they are in the heap. For a heap whose least item comes out first,
-/// put the items in `Reverse`.
+/// The items lie in one vector, read as a tree in which each place has up to `D` children. The
+/// [page of the crate](crate) says which arity to take and what each call costs. `D` can't be
+/// inferred, so a type alias such as [`BinaryHeap`] is often shorter. Arity 0 acts as arity 1.
+///
+/// # Examples
 ///
 /// ```
+/// use dary_heap::BinaryHeap;
+///
+/// let mut scores = BinaryHeap::new(alloc);
+/// assert_eq!(rt; scores.peek(), None);
+///
+/// scores.push(20)?;
+/// scores.push(50)?;
+/// scores.push(30)?;
+/// assert_eq!(rt; scores.peek(), Some(&50));
+/// assert_eq!(rt; scores.len(), 3);
+///
+/// assert_eq!(rt; scores.pop(), Some(50));
+/// assert_eq!(rt; scores.pop(), Some(30));
+/// assert_eq!(rt; scores.pop(), Some(20));
+/// assert_eq!(rt; scores.pop(), None);
+/// ```
+///
+/// ## Min-heap
+///
+/// Items in `Reverse` come out least first.
+///
+/// ```
+/// use dary_heap::TernaryHeap;
+/// use std::cmp::Reverse;
+///
 /// let mut heap = TernaryHeap::new(alloc);
-/// heap.push(1)?;
-/// heap.push(5)?;
-/// heap.push(2)?;
-/// assert_eq!(rt; heap.peek(), Some(&5));
-/// assert_eq!(rt; heap.pop(), Some(5));
-/// assert_eq!(rt; heap.len(), 2);
+/// heap.push(Reverse(1))?;
+/// heap.push(Reverse(5))?;
+/// heap.push(Reverse(2))?;
+/// assert_eq!(rt; heap.pop(), Some(Reverse(1)));
+/// assert_eq!(rt; heap.pop(), Some(Reverse(2)));
+/// assert_eq!(rt; heap.pop(), Some(Reverse(5)));
+/// ```
+///
+/// ## If memory allocation fails
+///
+/// A push returns the item, and the heap is as it was. After a [`reserve`](DaryHeap::reserve) of
+/// enough room no push fails.
+///
+/// ```
+/// use dary_heap::DaryHeap;
+///
+/// let mut heap = DaryHeap::<_, 16>::new(alloc);
+/// if let Err(item) = heap.push("wash") {
+///     // There was no memory for it, and the heap is still empty.
+///     assert_eq!(rt; item, "wash");
+/// }
+/// heap.reserve(2)?;
+/// assert_eq!(rt; heap.push("cook"), Ok(()));
+/// assert_eq!(rt; heap.push("sweep"), Ok(()));
 /// ```
 #[derive(Drop)]
 pub struct DaryHeap<T: Ord, const D: usize> {
@@ -53,7 +99,7 @@ impl<T: Ord, const D: usize> Model for DaryHeap<T, D> {
     ghost invariant = { λ heap. IsHeapOrdered T.cmp D heap.items.items };
 }
 
-/// A heap of arity 2, as std's `BinaryHeap`.
+/// A heap of arity 2, which is also the arity of std's `BinaryHeap`.
 pub type BinaryHeap<T> = DaryHeap<T, 2>;
 
 /// A heap of arity 3.
@@ -75,7 +121,23 @@ pub type SeptenaryHeap<T> = DaryHeap<T, 7>;
 pub type OctonaryHeap<T> = DaryHeap<T, 8>;
 
 impl<T: Ord, const D: usize> DaryHeap<T, D> {
-    /// An empty heap. It takes no memory until an item or a reserve asks for it.
+    /// Returns an empty heap.
+    ///
+    /// It allocates no memory before an item is pushed or room is reserved.
+    ///
+    /// # Examples
+    ///
+    /// ```
+    /// use dary_heap::QuaternaryHeap;
+    ///
+    /// let mut heap = QuaternaryHeap::new(alloc);
+    /// heap.push(4)?;
+    /// assert_eq!(rt; heap.into_vec().as_slice(), [4].as_slice());
+    /// ```
+    ///
+    /// # Time
+    ///
+    /// *O*(1), without a comparison.
     pub fn new(alloc: Global) -> Self
         ensures items { result.items ≡ [] }
         ensures capacity { result.capacity ≡ 0 }
@@ -87,22 +149,66 @@ impl<T: Ord, const D: usize> DaryHeap<T, D> {
         }
     }
 
-    /// The number of items. It compares nothing.
+    /// Returns the number of items.
+    ///
+    /// # Examples
+    ///
+    /// ```
+    /// use dary_heap::BinaryHeap;
+    ///
+    /// let heap = BinaryHeap::from(vec![in alloc; 1, 3]?);
+    /// assert_eq!(rt; heap.len(), 2);
+    /// ```
+    ///
+    /// # Time
+    ///
+    /// *O*(1), without a comparison.
     pub fn len(&self) -> usize
         ensures { result ≡ length self.now.items }
     {
         self.items.len()
     }
 
-    /// Whether there is no item. It compares nothing.
+    /// Returns `true` if the heap has no items.
+    ///
+    /// # Examples
+    ///
+    /// ```
+    /// use dary_heap::BinaryHeap;
+    ///
+    /// let mut heap = BinaryHeap::new(alloc);
+    /// assert!(rt; heap.is_empty());
+    /// heap.push(3)?;
+    /// assert!(rt; !heap.is_empty());
+    /// ```
+    ///
+    /// # Time
+    ///
+    /// *O*(1), without a comparison.
     pub fn is_empty(&self) -> bool
         ensures { result ≡ (length self.now.items == 0) }
     {
         self.items.is_empty()
     }
 
-    /// How many items there is room for, which is at least the length. A push below it takes no memory. It
-    /// compares nothing.
+    /// Returns the number of items that there is room for. It is never less than the length.
+    ///
+    /// A push allocates memory only if the length has reached the capacity.
+    ///
+    /// # Examples
+    ///
+    /// ```
+    /// use dary_heap::OctonaryHeap;
+    ///
+    /// let mut heap = OctonaryHeap::with_capacity(alloc, 100)?;
+    /// assert!(rt; heap.capacity() >= 100);
+    /// heap.push(4)?;
+    /// assert!(rt; heap.capacity() >= 100);
+    /// ```
+    ///
+    /// # Time
+    ///
+    /// *O*(1), without a comparison.
     pub fn capacity(&self) -> usize
         ensures capacity { result ≡ self.now.capacity }
         ensures holds { length self.now.items ≤ result }
@@ -110,7 +216,23 @@ impl<T: Ord, const D: usize> DaryHeap<T, D> {
         self.items.capacity()
     }
 
-    /// The items in the order in which they are stored, which is heap ordered. It compares nothing.
+    /// Returns the items in the order in which they are stored.
+    ///
+    /// The slice is heap ordered: no item is strictly greater than its parent, which is the item at
+    /// `(place - 1) / D`. So the first item is a greatest one.
+    ///
+    /// # Examples
+    ///
+    /// ```
+    /// use dary_heap::TernaryHeap;
+    ///
+    /// let heap = TernaryHeap::from(vec![in alloc; 1, 2, 3, 4]?);
+    /// assert_eq!(rt; heap.as_slice(), [4, 2, 3, 1].as_slice());
+    /// ```
+    ///
+    /// # Time
+    ///
+    /// *O*(1), without a comparison.
     pub fn as_slice(&self) -> &[T]
         ensures items { result.now ≡ self.now.items }
         ensures ordered { IsHeapOrdered T.cmp D self.now.items }
@@ -118,8 +240,27 @@ impl<T: Ord, const D: usize> DaryHeap<T, D> {
         self.items.as_slice()
     }
 
-    /// A greatest item, or `None` exactly on an empty heap. It is the first of `as_slice`, and the one
-    /// that the next `pop` gives. It compares nothing.
+    /// Returns a greatest item, or `None` if the heap is empty.
+    ///
+    /// It is the first item of [`as_slice`](DaryHeap::as_slice), and the one that the next
+    /// [`pop`](DaryHeap::pop) returns.
+    ///
+    /// # Examples
+    ///
+    /// ```
+    /// use dary_heap::BinaryHeap;
+    ///
+    /// let mut heap = BinaryHeap::new(alloc);
+    /// assert_eq!(rt; heap.peek(), None);
+    /// heap.push(1)?;
+    /// heap.push(5)?;
+    /// heap.push(2)?;
+    /// assert_eq!(rt; heap.peek(), Some(&5));
+    /// ```
+    ///
+    /// # Time
+    ///
+    /// *O*(1), without a comparison.
     pub fn peek(&self) -> Option<&T>
         ensures variant { IsSome result ↔ (0 < length self.now.items) }
         ensures first { option_copied result ≡ slice_get self.now.items 0 }
@@ -131,12 +272,31 @@ impl<T: Ord, const D: usize> DaryHeap<T, D> {
 
     /// Adds an item.
     ///
-    /// `peek` shows it from then on where the heap was empty or it is strictly greater than the item that
-    /// `peek` showed; otherwise `peek` shows the same item as before, an equal one too.
+    /// If the heap was empty, or the item is strictly greater than the one that
+    /// [`peek`](DaryHeap::peek) returned, `peek` returns the new item from then on. Otherwise it
+    /// returns the same item as before.
     ///
-    /// It takes at most as many comparisons as the new place is deep. Where the length has reached the
-    /// capacity, and only there, it asks for memory. Where that is refused, and only then, the item
-    /// comes back and the heap is as it was.
+    /// # Errors
+    ///
+    /// Returns the item if memory allocation fails. The heap is then as it was. This happens only
+    /// if the length has reached the [`capacity`](DaryHeap::capacity).
+    ///
+    /// # Examples
+    ///
+    /// ```
+    /// use dary_heap::TernaryHeap;
+    ///
+    /// let mut heap = TernaryHeap::new(alloc);
+    /// heap.push(3)?;
+    /// heap.push(5)?;
+    /// heap.push(1)?;
+    /// assert_eq!(rt; heap.len(), 3);
+    /// assert_eq!(rt; heap.peek(), Some(&5));
+    /// ```
+    ///
+    /// # Time
+    ///
+    /// At most as many comparisons as the new place is deep, which is *O*(log *n*) from arity 2 on.
     pub fn push(&mut self, item: T) -> Result<(), T>
         ensures bag { OnOk result (IsSameBag (item ∷ self.old.items) self.new.items) }
         ensures first { OnOk result (front self.new.items ≡ Some (front_with T.cmp item (front self.old.items))) }
@@ -146,7 +306,7 @@ impl<T: Ord, const D: usize> DaryHeap<T, D> {
         ensures capacity { self.old.capacity ≤ self.new.capacity }
         ensures kept { length self.old.items < self.old.capacity → self.new.capacity ≡ self.old.capacity }
 
-        // It is refused only where the heap is full, and then nothing has changed.
+        // It fails only if the heap is full, and then nothing has changed.
         ensures succeeds { length self.old.items < self.old.capacity → IsOk result }
         ensures full { OnErr result (length self.old.items ≡ self.old.capacity) }
         ensures returned { IfErr result (λ back. back ≡ item) }
@@ -155,11 +315,25 @@ impl<T: Ord, const D: usize> DaryHeap<T, D> {
         push_with::<T, ByOrd, D>(&mut self.items, item, &mut self.judge)
     }
 
-    /// Takes a greatest item out: the one that `peek` shows. On an empty heap, and only there, it gives
-    /// `None`.
+    /// Removes a greatest item and returns it, or returns `None` if the heap is empty.
     ///
-    /// It takes at most the arity times the depth of the last place that remains, in comparisons. The
-    /// capacity stays.
+    /// It is the item that [`peek`](DaryHeap::peek) returns. The capacity stays the same.
+    ///
+    /// # Examples
+    ///
+    /// ```
+    /// use dary_heap::QuaternaryHeap;
+    ///
+    /// let mut heap = QuaternaryHeap::from(vec![in alloc; 1, 3]?);
+    /// assert_eq!(rt; heap.pop(), Some(3));
+    /// assert_eq!(rt; heap.pop(), Some(1));
+    /// assert_eq!(rt; heap.pop(), None);
+    /// ```
+    ///
+    /// # Time
+    ///
+    /// At most the arity times the depth of the last place that remains, in comparisons, which is
+    /// *O*(log *n*) from arity 2 on.
     #[inline]
     pub fn pop(&mut self) -> Option<T>
         ensures variant { IsSome result ↔ (0 < length self.old.items) }
@@ -171,7 +345,7 @@ impl<T: Ord, const D: usize> DaryHeap<T, D> {
         ensures counted { RisesWithin self.old.comparisons self.new.comparisons (pop_bound D (length self.old.items)) }
         ensures capacity { self.new.capacity ≡ self.old.capacity }
 
-        // Where there is no item nothing changes.
+        // If there is no item nothing changes.
         ensures unchanged { IfNone result (self.new ≡ self.old) }
     {
         pop_with::<T, ByOrd, D>(&mut self.items, &mut self.judge)

@@ -1,9 +1,20 @@
-//! Iterators over the items of a heap, in the order in which they are stored or in descending order.
+//! Iterators over the items of a heap, in the order in which they are stored or in descending
+//! order.
 //!
-//! A clause sees those of the first kind, [`Iter`], [`IntoIter`] and [`Drain`], as the list of the items
-//! that are left: `next` gives the first of it, `next_back` the last. They compare nothing. It sees
-//! [`IntoIterSorted`] and [`DrainSorted`] as the heap that they pop from. All know how many items are
-//! left, and give none once they have given none.
+//! | iterator | returned by | items | order |
+//! |---|---|---|---|
+//! | [`Iter`] | [`iter`](crate::DaryHeap::iter), a loop over `&heap` | by reference | as stored, from both ends |
+//! | [`IntoIter`] | `into_iter`, a loop over `heap` | by value | as stored, from both ends |
+//! | [`Drain`] | [`drain`](crate::DaryHeap::drain) | by value; the heap is empty afterwards | as stored, from both ends |
+//! | [`IntoIterSorted`] | [`into_iter_sorted`](crate::DaryHeap::into_iter_sorted) | by value | descending |
+//! | [`DrainSorted`] | [`drain_sorted`](crate::DaryHeap::drain_sorted) | by value; the heap is empty afterwards | descending |
+//!
+//! `len` returns how many items are left, and after a `None` each returns `None` again. The first
+//! three compare nothing.
+//!
+//! A clause sees the first three as the list of the items that are left: `next` returns the first
+//! of it, `next_back` the last. It sees [`IntoIterSorted`] and [`DrainSorted`] as the heap that
+//! they pop from.
 
 mod drain;
 mod drain_sorted;

@@ -1,8 +1,9 @@
 //! A priority queue of any arity: a heap in one vector, in which each place has up to `D` children.
 //!
-//! A greatest item comes out first, and nothing is lost or doubled. Names and behaviour are those of
-//! Rust's crate `dary_heap`, with an allocator where memory is taken and a `Result` where it may be
-//! refused.
+//! [`DaryHeap::pop`] returns a greatest item, and nothing is lost or doubled. Names and behaviour
+//! are those of Rust's crate `dary_heap`, which follows std's `BinaryHeap`. What takes memory takes
+//! an allocator or keeps the one that it was made with, and returns a `Result`. `CALLING.md` has a
+//! first caller with a proof.
 //!
 //! ```
 //! use dary_heap::TernaryHeap;
@@ -11,15 +12,66 @@
 //! heap.push(1)?;
 //! heap.push(5)?;
 //! heap.push(2)?;
+//! assert_eq!(rt; heap.peek(), Some(&5));
 //! assert_eq!(rt; heap.pop(), Some(5));
+//! assert_eq!(rt; heap.len(), 2);
 //! ```
+//!
+//! Each example of these pages is run as a test: `rt` is the test's `HostRuntime`, and `alloc` is
+//! `rt.alloc()`.
+//!
+//! # Arities
+//!
+//! | name | arity |
+//! |---|---|
+//! | [`BinaryHeap`] | 2 |
+//! | [`TernaryHeap`] | 3 |
+//! | [`QuaternaryHeap`] | 4 |
+//! | [`QuinaryHeap`] | 5 |
+//! | [`SenaryHeap`] | 6 |
+//! | [`SeptenaryHeap`] | 7 |
+//! | [`OctonaryHeap`] | 8 |
+//!
+//! Any other arity is written `DaryHeap<T, D>`. Arity 1 keeps a sorted vector, and arity 0 acts as
+//! arity 1. A greater arity makes the tree flatter: a push takes fewer comparisons, a pop more.
+//! `docs/SPEED.md` has the measurements behind this table:
+//!
+//! | use | arity |
+//! |---|---|
+//! | items come in and go out again | 4 |
+//! | much comes in and little goes out | 8 |
+//! | a comparison takes long, items go out again | 2 |
+//! | a comparison takes long, most items stay | 8 |
+//!
+//! # Costs
+//!
+//! The greatest number of comparisons, for `n` items at an arity `D` of 2 or more. The contracts
+//! have the exact bounds, at every arity, and they are proved.
+//!
+//! | method | comparisons, at most |
+//! |---|---|
+//! | [`push`](DaryHeap::push) | the depth of the new place: *O*(log *n*) |
+//! | [`pop`](DaryHeap::pop), [`pop_if`](DaryHeap::pop_if), [`PeekMut::pop`] | `D` times the depth of the last place: *O*(log *n*) |
+//! | [`peek_mut`](DaryHeap::peek_mut) | none; if the item is written, `D` times the depth of the last place |
+//! | `from` of a vector, [`from_array`](DaryHeap::from_array), `collect`, [`clone`](DaryHeap::clone) | `2 * (n - 1)` |
+//! | `extend` by `k` items, [`append`](DaryHeap::append) of `k` items | `2 * (n - 1)`, or `k` times the depth of the last place if that is more |
+//! | [`retain`](DaryHeap::retain) | the same, with the kept items from the first removed one on as `k` |
+//! | [`into_iter_sorted`](DaryHeap::into_iter_sorted), [`drain_sorted`](DaryHeap::drain_sorted) | a pop for each item |
+//! | [`peek`](DaryHeap::peek), [`len`](DaryHeap::len), [`iter`](DaryHeap::iter), [`drain`](DaryHeap::drain), [`into_vec`](DaryHeap::into_vec), [`clear`](DaryHeap::clear), [`reserve`](DaryHeap::reserve) and all others | none |
+//!
+//! The depth of a place is the number of steps from it up to the first place: at most the logarithm
+//! of `(D - 1) * place + 1` to the base `D`. [`sift::depth`] returns it.
+//!
+//! # Modules
 //!
 //! From the bottom up:
 //!
-//! - [`sift`] moves items along the paths of the tree, for any judge of items, and counts comparisons;
+//! - [`sift`] moves items along the paths of the tree, for any judge of items, and counts
+//!   comparisons;
 //! - [`heap`] has the heap;
-//! - [`peek_mut`] lends a heap's greatest item, to be read and written;
-//! - [`iter`] goes over the items of a heap, as they are stored or in descending order;
+//! - [`peek_mut`] has [`PeekMut`], through which a heap's greatest item is read and written;
+//! - [`iter`] has the iterators over the items of a heap, as they are stored or in descending
+//!   order;
 //! - [`run`] carries lists of commands out, against the machine that says what a heap may answer;
 //! - [`shortest_path`] searches a graph for a cheapest walk, over a heap.
 #![tactic(auto)]

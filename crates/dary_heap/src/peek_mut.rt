@@ -1,13 +1,14 @@
-//! The loan of a heap's greatest item.
+//! The greatest item of a heap, to be read, written or taken out.
 //!
-//! While it lasts the loan holds the heap by its reference, with the heap's vector in its own hands and
-//! an empty one in the heap. When it ends the vector goes back. So a loan that is forgotten leaves a heap
-//! without items, and no call of a loan takes memory.
+//! [`PeekMut`] holds the heap by its reference, with the heap's vector in its own hands and an
+//! empty one in the heap. When it ends the vector goes back. So a `PeekMut` that is forgotten
+//! leaves a heap without items, and no call of it allocates memory.
 //!
-//! A clause sees a loan by the words of `specs/PeekMut.antt`: as `loaned` the heap's contents, whose
-//! first item is the one on loan as it was last written, and as `is_written` whether it may have been
-//! written since the loan began or was refreshed. What its end leaves behind the reference is
-//! `exit.0.now`, the heap's contents.
+//! The contracts call a `PeekMut` a *loan*, and its item the one *on loan*. A clause sees a loan by
+//! the words of `specs/PeekMut.antt`: as `loaned` the heap's contents, whose first item is the one
+//! on loan as it was last written, and as `is_written` whether it may have been written since the
+//! loan began or was refreshed. What its end leaves behind the reference is `exit.0.now`, the
+//! heap's contents.
 ghost use Rattle.dary_heap.specs.Loan.{IsLent, IsLent-prop};
 
 use crate::heap::DaryHeap;
@@ -18,24 +19,34 @@ use std::mem;
 mod held;
 mod methods;
 
-/// The greatest item of a heap, on loan from [`DaryHeap::peek_mut`].
+/// The greatest item of a heap, which [`DaryHeap::peek_mut`] returns. It is read and written
+/// through `*`.
 ///
-/// It may be read and written through `*`. A write may change its order: from a call of `deref_mut` until
-/// the next [`PeekMut::refresh`] the loan counts as written. When it is dropped, a written item goes down
-/// to its place, in at most the arity times the depth of the last place, in comparisons, and in at most
-/// one more than a pop may take. A loan that is not written, or is of the one item of its heap, leaves the
-/// heap as it was and compares nothing. Where no other item is strictly greater than what was written
-/// last, that stays the first of the heap. The capacity stays.
+/// A write may change the item's order. The item counts as written from a call of `deref_mut` until
+/// the next [`refresh`](PeekMut::refresh). When the `PeekMut` is dropped, a written item goes down
+/// to its place. If no other item is strictly greater than it, no item moves. The heap's capacity
+/// stays the same.
 ///
-/// A loan that is forgotten by `mem::forget` leaves an empty heap, which works on.
+/// If a `PeekMut` is forgotten by `mem::forget`, the heap is empty afterwards. It may still be
+/// used.
+///
+/// # Examples
 ///
 /// ```
+/// use dary_heap::TernaryHeap;
+///
 /// let mut heap = TernaryHeap::from(vec![in alloc; 1, 5, 2]?);
 /// if let Some(mut greatest) = heap.peek_mut() {
 ///     *greatest = 0;
 /// }
 /// assert_eq!(rt; heap.as_slice(), [2, 1, 0].as_slice());
 /// ```
+///
+/// # Time
+///
+/// If the item was written and is not the only one, the drop takes at most the arity times the
+/// depth of the last place, in comparisons, and at most one more than a [`pop`](DaryHeap::pop) may
+/// take. Otherwise it takes none, and leaves the heap as it was.
 // The type of `items` is a parameter, which callers leave out, for the reason that `Held` gives.
 pub struct PeekMut<'a, T: Ord, const D: usize, I: Held<T> = Vec<T>> {
     heap: &'a mut DaryHeap<T, D>,
@@ -60,14 +71,14 @@ impl<'a, T: Ord + Drop, const D: usize, I: Held<T>> Drop for PeekMut<'a, T, D, I
         ensures counted { RisesWithin (loaned self.entry).comparisons self.exit.0.now.comparisons (sink_bound D (length (loaned self.entry).items)) }
         ensures capacity { self.exit.0.now.capacity ≡ (loaned self.entry).capacity }
 
-        // From arity 2 on this says more where the last place is the first of its depth.
+        // From arity 2 on this says more if the last place is the first of its depth.
         ensures tight { RisesWithin (loaned self.entry).comparisons self.exit.0.now.comparisons (pop_bound D (length (loaned self.entry).items) + 1) }
 
         // What no other item exceeds stays the first, and then no item moves.
         ensures first { (IsExceeded T.cmp (loaned self.entry).items → ⊥) → front self.exit.0.now.items ≡ front (loaned self.entry).items }
         ensures unmoved { (IsExceeded T.cmp (loaned self.entry).items → ⊥) → self.exit.0.now.items ≡ (loaned self.entry).items }
 
-        // Where nothing was written, or one item is alone, nothing changes and nothing is compared.
+        // If nothing was written, or one item is alone, nothing changes and nothing is compared.
         ensures unwritten { is_written self.entry ≡ false → self.exit.0.now ≡ loaned self.entry }
         ensures alone { length (loaned self.entry).items ≡ 1 → self.exit.0.now ≡ loaned self.entry }
     {

@@ -1,8 +1,10 @@
 //! Lists of commands, and the replies to them.
 //!
-//! [`run`] carries a list of commands out on a heap. Its contract says that the replies and the items
-//! are a run of the bag machine of `specs/Machine.antt`, which knows no tree and no memory. It has a bag
-//! and its front, an item that no other exceeds: a question is about the front, and a pop gives it.
+//! [`run`] carries a list of commands out on a heap. Its contract says that the replies and the
+//! items are a run of the *bag machine* of `specs/Machine.antt`, which says what a priority queue
+//! may reply, and knows no tree and no memory. Its state is a bag of items, which is a multiset,
+//! and their *front*, an item that no other exceeds: a question is about the front, and a pop
+//! returns it.
 ghost use Rattle.std.specs.Prelude.{◌≡◌, ◌++◌, ◌∷◌, [], length, slice_get, All, Bool, Some, None, IfOk, IfErr, IsOk};
 ghost use Rattle.std.specs.Fn.{CalledAt, FnOnceTakesAt, FnOnceReturnsAt};
 ghost use Rattle.dary_heap.specs.Asking.{IsCallableOn, items_in, predicates_in};
@@ -17,116 +19,155 @@ use crate::peek_mut::PeekMut;
 use std::alloc::Global;
 use std::mem;
 
-/// What is done with the loan of a greatest item.
+/// An act on a greatest item, as through a [`PeekMut`]. While the acts last the item is *on loan*.
 #[derive(Debug, Drop)]
 pub enum Act<T> {
     /// Writes an item in the place of the one on loan.
     Write(T),
-    /// Refreshes the loan, which is then of a greatest item again.
+    /// Refreshes, as [`PeekMut::refresh`] does: from then on a greatest item is on loan again.
     Refresh,
 }
 
-/// How the loan of a greatest item ends.
+/// What becomes of the item on loan after the acts.
 #[derive(Debug, Drop)]
 pub enum End {
-    /// The item on loan goes back to the heap.
+    /// It goes back to the heap.
     Drop,
-    /// The item on loan is taken out.
+    /// It is removed from the heap.
     Pop,
 }
 
-/// What an act on a loan shows.
+/// What an act shows.
 #[derive(Debug, Drop)]
 pub enum Seen<T> {
-    /// The item that was on loan before a write.
+    /// The item that was there before a write.
     Old(T),
-    /// Whether a refresh found that another item was strictly greater.
+    /// What a refresh returned: whether another item was strictly greater.
     Changed(bool),
 }
 
-/// What a heap is asked to do.
+/// A call on a heap.
 #[derive(Drop)]
 pub enum Command<T: Ord, const D: usize, P> {
     /// Adds an item.
     Push(T),
-    /// Takes a greatest item out.
+    /// Removes a greatest item.
     Pop,
-    /// Takes a greatest item out, the one that a pop would take, if the predicate answers yes to it.
+    /// Removes a greatest item, the one that a pop would remove, if the predicate returns `true`
+    /// for it.
     PopIf(P),
-    /// Asks a predicate about a greatest item, the one that a pop would take.
+    /// Asks the predicate about a greatest item, the one that a pop would remove.
     Ask(P),
     /// Counts the items.
     Len,
-    /// Keeps the items that the predicate answers yes of.
+    /// Keeps the items for which the predicate returns `true`, and drops the others.
     Retain(P),
     /// Adds items.
     Extend(Vec<T>),
     /// Adds the items of another heap.
     Append(DaryHeap<T, D>),
-    /// Makes room for as many more items.
+    /// Reserves room for so many more items.
     Reserve(usize),
-    /// Gives back the room that is beyond both the length and this capacity.
+    /// Shrinks the capacity to this number, or to the length if that is greater.
     Shrink(usize),
-    /// Gives up all items.
+    /// Drops all items.
     Clear,
-    /// Takes all items out, and gives the first so many of them in the order of `as_slice`.
+    /// Removes all items, and returns the first so many of them in the order of `as_slice`.
     Drain(usize),
-    /// Pops all items, and gives the first so many of them.
+    /// Pops all items, and returns the first so many of them.
     DrainSorted(usize),
-    /// Lends a greatest item, the one that a pop would take, for these acts and this end.
+    /// Lends a greatest item, the one that a pop would remove, for these acts and this end.
     Loan(Vec<Act<T>>, End),
 }
 
-/// What became of a command.
+/// What a command led to.
 #[derive(Debug, Drop)]
 pub enum Reply<T: Ord, const D: usize> {
     /// The item was added.
     Pushed,
-    /// There was no memory for the item, which comes back.
+    /// Memory allocation failed. This is the item.
     PushRefused(T),
-    /// The item that was taken out, if there was one.
+    /// The item that was removed, if one was.
     Popped(Option<T>),
-    /// What the predicate answered, if there was an item to ask it about.
+    /// What the predicate returned, if there was an item.
     Asked(Option<bool>),
     /// The number of items.
     Len(usize),
-    /// It is done.
+    /// The command was carried out.
     Done,
-    /// There was no memory for one of the items: those before it were added, it and the rest given up.
+    /// Memory allocation failed for one of the items. Those before it were added, the others
+    /// dropped.
     ExtendRefused,
-    /// There was no memory for the other heap's items, which comes back as it was.
+    /// Memory allocation failed. This is the other heap, as it was.
     AppendRefused(DaryHeap<T, D>),
-    /// There was no memory for it, and the heap is as it was.
+    /// Memory allocation failed, and the heap is as it was.
     Refused,
-    /// The items that were taken out and asked for.
+    /// The items that were asked for.
     Taken(Vec<T>),
-    /// What the acts on the loan showed, in their order, and the item that was taken out at its end; if
-    /// there was an item.
+    /// What the acts showed, in order, and the item if it was removed at the end; `None` if the
+    /// heap was empty.
     Loaned(Option<(Vec<Seen<T>>, Option<T>)>),
 }
 
-/// Carries the commands out, one after another, and gives one reply to each, in order.
+/// Carries the commands out, one after another, and returns one reply to each, in order.
 ///
-/// It asks of the caller that each predicate may be called on the items that the heap and the commands
-/// hold.
+/// The replies and the items are a run of the bag machine. Its front is the first item of
+/// [`as_slice`](DaryHeap::as_slice), at the start and at the end.
 ///
-/// The replies and the items are a run of the bag machine. Its front is the first item of `as_slice`, at
-/// the start and at the end. Of the pushes, as many as there is room for at the start, or as a granted
-/// reserve asked for, are not refused, where no more than pushes, pops, questions and counts come before
-/// them; and where nothing else comes at all, there is room for the rest of them afterwards.
+/// As many pushes as there is room for at the start, or as a [`Command::Reserve`] that was carried
+/// out asked for, don't fail, as long as only pushes, pops, questions and counts come before them.
+/// If nothing else comes at all, there is room for the rest of them afterwards. A drain and a loan
+/// reserve room for their reply before they begin. On an empty heap they never fail, nor does a
+/// drain of no items or a loan without acts.
 ///
-/// A drain and a loan reserve room for what they answer before they begin. Where that is refused the
-/// heap is as it was; a drain or a loan of an empty heap, a drain of no items and a loan without acts are
-/// never refused.
+/// # Preconditions
 ///
-/// The heap takes at most the sum of the charges of the steps, in comparisons: for a push the depth of
-/// the new place, for a pop the arity times the depth of the last place that remains, for an extend the
-/// repair of as many items as came in, for an append that of as many as the shorter heap had, for a
-/// retain that of all that are left, for a drain in descending order as many pops as there are items,
-/// for a loan and for each refresh in it one way down from the first place, and for the others none.
+/// - Each predicate may be called on the items that the heap and the commands hold.
 ///
-/// Room for all replies is reserved first; no command needs none. Where that is refused, and only then,
-/// the commands come back in their order, and the heap is as it was.
+/// # Errors
+///
+/// Returns the commands if memory allocation for the replies fails. The heap is then as it was. For
+/// no commands nothing is allocated, and the call doesn't fail.
+///
+/// If memory allocation fails for a single command, its reply says so.
+///
+/// # Examples
+///
+/// ```
+/// use dary_heap::TernaryHeap;
+/// use dary_heap::run::{Act, Command, End, run};
+/// use std::alloc::AllocError;
+///
+/// let mut heap = TernaryHeap::new(alloc);
+/// let commands = vec![in alloc;
+///     Command::Push(3),
+///     Command::Push(7),
+///     Command::Ask(|item: &i32| *item >= 5),
+///     Command::Loan(vec![in alloc; Act::Write(2)]?, End::Drop),
+///     Command::Pop,
+///     Command::Len,
+/// ]?;
+/// let replies = run(alloc, &mut heap, commands).map_err(|_| AllocError)?;
+/// assert_eq!(rt;
+///     format!(in alloc; "{replies:?}")?.as_str(),
+///     "[Pushed, Pushed, Asked(Some(true)), Loaned(Some(([Old(7)], None))), Popped(Some(3)), Len(1)]"
+/// );
+/// ```
+///
+/// # Time
+///
+/// At most the sum of these numbers, in comparisons:
+///
+/// | command | comparisons, at most |
+/// |---|---|
+/// | `Push` | the depth of the new place |
+/// | `Pop`, `PopIf` | the arity times the depth of the last place that remains |
+/// | `Extend` | as [`mend_with`](crate::sift::mend_with) of the items that were added |
+/// | `Append` | as `mend_with` of as many items as the shorter heap had |
+/// | `Retain` | as `mend_with` of all items that are left |
+/// | `DrainSorted` | as many pops as there are items |
+/// | `Loan` | the arity times the depth of the last place, for the end and for each refresh |
+/// | all others | none |
 pub fn run<T: Ord + Drop, const D: usize, P: FnMut(&T) -> bool>(
     alloc: Global,
     heap: &mut DaryHeap<T, D>,
@@ -143,7 +184,7 @@ pub fn run<T: Ord + Drop, const D: usize, P: FnMut(&T) -> bool>(
     ensures returned { IfErr result (λ back. back.items ≡ commands.items) }
     ensures unchanged { IfErr result (λ back. heap.new ≡ heap.old) }
 {
-    // It ensures that the heap is ordered, also where there is no command.
+    // It ensures that the heap is ordered, also if there is no command.
     let _ = heap.as_slice();
     let Ok(mut replies) = Vec::with_capacity(alloc, commands.len()) else {
         return Err(commands);
@@ -154,14 +195,26 @@ pub fn run<T: Ord + Drop, const D: usize, P: FnMut(&T) -> bool>(
     Ok(replies)
 }
 
-/// The law on two arities: without ties, the arity is a matter of speed alone. It does nothing when it
-/// runs, takes no memory and compares nothing.
+/// States a law: without ties, the arity is a matter of speed alone. It does nothing when it runs.
 ///
-/// Take any two runs of the bag machine from states with the same bag, by the same commands, none of
-/// which holds a predicate or a heap or drains in slice order. Where no two different values of the bag
-/// and the commands compare equal and nothing is refused, the replies are equal, and so are the bags at
-/// the end. The machine knows no arity, so this holds of what [`run`] gives at any two: the lemma
-/// `RunsUnrefused-from` of `proofs/SameReplies.antt` takes its `Runs` there.
+/// Take any two runs of the bag machine from states with the same bag, by the same commands. No
+/// command holds a predicate or a heap or drains in slice order, no two different values of the bag
+/// and the commands compare equal, and no memory allocation fails. Then the replies are equal, and
+/// so are the bags at the end. The machine knows no arity, so this holds of what [`run`] returns at
+/// any two. For a proof, the lemma `RunsUnrefused-from` of `proofs/SameReplies.antt` leads there
+/// from the clause `runs`.
+///
+/// # Examples
+///
+/// ```
+/// use dary_heap::run::two_arities;
+///
+/// two_arities::<i32, fn(&i32) -> bool>();
+/// ```
+///
+/// # Time
+///
+/// No comparison.
 pub fn two_arities<T: Ord, P: FnMut(&T) -> bool>()
     ensures { SameRepliesAtTwoArities T.cmp (CalledAt P.FnMut) }
 {}
@@ -211,7 +264,8 @@ fn pop<T: Ord, const D: usize, P: FnMut(&T) -> bool>(heap: &mut DaryHeap<T, D>) 
     Reply::Popped(heap.pop())
 }
 
-/// What the predicate answers about the front, if there is one. As an `FnOnce` it is asked once at most.
+/// Returns what the predicate returns for the front, if there is one. As an `FnOnce` it is called once at
+/// most.
 fn ask<T: Ord, const D: usize, F: FnOnce(&T) -> bool>(
     heap: &DaryHeap<T, D>,
     predicate: F,

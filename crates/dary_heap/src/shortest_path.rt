@@ -1,8 +1,8 @@
-//! The search for a cheapest walk, over a ternary heap.
+//! A search for a cheapest walk in a graph, over a ternary heap.
 //!
-//! [`shortest_path`] is the search that the documentation of heaps gives as its example. Its contract
-//! speaks of walks and of what they cost, by the words of `specs/Walk.antt`, which know nothing of a
-//! search. It stands on `new`, `push` and `pop` of the heap alone.
+//! [`shortest_path`] is the search that the documentation of heaps gives as its example. Its
+//! contract speaks of walks and of what they cost, by the words of `specs/Walk.antt`, which know
+//! nothing of a search. It stands on `new`, `push` and `pop` of the heap alone.
 ghost use Rattle.std.proofs.Common.{rules};
 ghost use Rattle.std.specs.Cmp.{partial_order_from_own_ties};
 ghost use Rattle.std.specs.Cmp.Rules.{comparing};
@@ -22,7 +22,7 @@ use work::Work;
 
 mod work;
 
-/// An edge of a graph: the node that it leads to, and what it costs.
+/// An edge of a graph, which leaves the node in whose list it stands.
 #[derive(Clone, Copy, PartialEq, Eq, Debug)]
 pub struct Edge {
     /// The node that it leads to.
@@ -33,8 +33,19 @@ pub struct Edge {
 
 /// A node that was reached at a cost.
 ///
-/// The cheaper state is the greater one, so that a heap gives the cheapest first. Of two that cost the
-/// same the one of the greater node is the greater.
+/// The cheaper state is the greater one, so that a heap returns the cheapest first. Of two that
+/// cost the same the one of the greater node is the greater.
+///
+/// # Examples
+///
+/// ```
+/// use dary_heap::TernaryHeap;
+/// use dary_heap::shortest_path::State;
+///
+/// let state = |cost, position| State { cost, position };
+/// let mut heap = TernaryHeap::from(vec![in alloc; state(7, 1), state(2, 5)]?);
+/// assert_eq!(rt; heap.pop(), Some(state(2, 5)));
+/// ```
 #[derive(Clone, Copy, PartialEq, Eq, Debug)]
 pub struct State {
     /// What a walk to the node costs.
@@ -71,42 +82,56 @@ impl PartialOrd for State {
     }
 }
 
-/// Why a search gave no answer.
+/// Why a search failed.
 #[derive(Clone, Copy, PartialEq, Eq, Debug)]
 pub enum PathRefusal {
-    /// There was no memory.
+    /// Memory allocation failed.
     NoMemory,
-    /// What a walk costs reaches `usize::MAX`.
+    /// The cost of a walk reaches `usize::MAX`.
     CostTooLarge,
 }
 
-/// The least cost of a walk from one node to another, or `None` exactly where no walk leads there.
+/// Returns the least cost of a walk from one node to another, or `None` if no walk leads there.
 ///
-/// `adj_list` has for each node the list of the edges that leave it. The caller owes that `start` and the
-/// node of each edge are nodes of the graph, which are the numbers below its length. `goal` may be any
-/// number; no walk leads to one past the last node. To `start` itself the least cost is 0.
+/// The nodes are the numbers below the length of `adj_list`, which has for each node the list of
+/// the edges that leave it. `goal` may be any number; no walk leads to one that is no node. From
+/// `start` to itself the least cost is 0.
 ///
-/// Costs are summed up in a `usize`. Take a node other than the goal that a walk reaches, and its least
-/// cost. If with what one of its edges costs that comes to `usize::MAX` or more, the node is critical.
-/// `CostTooLarge` is answered only where some critical node's least cost is at most that of every walk to
-/// the goal. Where some critical node's least cost is below that of every walk to the goal, no cost and
-/// no `None` is answered. So an edge that costs too much does not matter where its node is dearer to
-/// reach than the goal.
+/// # Preconditions
 ///
-/// `NoMemory` is answered only where there was no memory for the table, which has a number for each node,
-/// or for the states that wait. Those are never more than the edges of the graph, and one.
+/// - `start` is a node.
+/// - The `node` of each edge is a node.
 ///
-/// The table is filled once; nothing else goes over all nodes. The edges of a node are examined once at
-/// most. A state is pushed for the start, and at most one for each edge that is examined; each is popped
-/// once at most. These pushes and pops take the comparisons of a ternary heap.
+/// # Errors
+///
+/// Returns [`PathRefusal::NoMemory`] if memory allocation fails: for the table, which has a number
+/// for each node, or for the states that wait. Those are never more than the edges of the graph,
+/// and one.
+///
+/// Returns [`PathRefusal::CostTooLarge`] if costs get too large for a `usize`. Call a node other
+/// than the goal that a walk reaches *critical* if its least cost, with what one of its edges
+/// costs, comes to `usize::MAX` or more. If some critical node's least cost is below that of every
+/// walk to the goal, the call fails. It fails so only if some critical node's least cost is at most
+/// that of every walk to the goal. So an edge that costs too much doesn't matter if its node is
+/// dearer to reach than the goal.
+///
+/// # Examples
 ///
 /// ```
+/// use dary_heap::shortest_path::{Edge, shortest_path};
+///
 /// let from_0 = vec![in alloc; Edge { node: 1, cost: 7 }, Edge { node: 2, cost: 1 }]?;
 /// let from_2 = vec![in alloc; Edge { node: 1, cost: 3 }]?;
 /// let graph = vec![in alloc; from_0, Vec::new(alloc), from_2]?;
 /// assert_eq!(rt; shortest_path(alloc, &graph, 0, 1), Ok(Some(4)));
 /// assert_eq!(rt; shortest_path(alloc, &graph, 1, 0), Ok(None));
 /// ```
+///
+/// # Time
+///
+/// The table is filled once, and nothing else goes over all nodes. The edges of a node are examined
+/// once at most. A state is pushed for the start, and at most one for each edge that is examined;
+/// each is popped once at most. These pushes and pops take the comparisons of a ternary heap.
 pub fn shortest_path(
     alloc: Global,
     adj_list: &Vec<Vec<Edge>>,
@@ -116,12 +141,12 @@ pub fn shortest_path(
     requires graph { IsWithin (length adj_list.now.items) adj_list.now.items }
     requires start { start < length adj_list.now.items }
 
-    // The answer is the cost of a walk, and none costs less; or no walk leads to the goal.
+    // The result is the cost of a walk, and none costs less; or no walk leads to the goal.
     ensures least { IfOk result (λ answer. IfSome answer (IsLeastCost adj_list.now.items start goal)) }
     ensures unreached { IfOk result (λ answer. IfNone answer (IsUnreached adj_list.now.items start goal)) }
 
-    // A critical node that is cheaper to reach than the goal leaves no answer, and `CostTooLarge` comes
-    // only from one that is no dearer to reach than the goal.
+    // If a critical node is cheaper to reach than the goal the call fails, and `CostTooLarge` comes only from
+    // one that is no dearer to reach than the goal.
     ensures uncritical { OnOk result (NoneCriticalBelow usize.MAX adj_list.now.items start goal) }
     ensures too_large { IfErr result (λ refusal. refusal ≡ CostTooLarge → HasCritical usize.MAX adj_list.now.items start goal) }
 {
@@ -160,7 +185,7 @@ fn search(
     ensures few { length heap.new.items ≤ length work.new.examined + 1 }
     ensures counted { RisesWithin heap.old.comparisons heap.new.comparisons ((length work.new.examined + 1) * (push_bound 3 (length work.new.examined) + pop_bound 3 (length work.new.examined + 1))) }
 {
-    // What a walk to each node was found to cost so far, and the greatest number where none was found.
+    // What a walk to each node was found to cost so far, and the greatest number if none was found.
     let Ok(mut found) = vec![in alloc; usize::MAX; adj_list.len()] else {
         return Err(PathRefusal::NoMemory);
     };

@@ -21,7 +21,7 @@ pub struct Entry {
 
 /// The items as they are, at any arity: no heap is made.
 #[unsafe(no_mangle)]
-pub extern "C" fn dheap_copy_entries(
+pub extern "C" fn bench_copy_entries(
     alloc: Global,
     _arity: usize,
     items: &[Entry],
@@ -37,7 +37,7 @@ pub extern "C" fn dheap_copy_entries(
 
 /// The slice of the heap of the items, which are heap ordered at the arity.
 #[unsafe(no_mangle)]
-pub extern "C" fn dheap_hold_entries(
+pub extern "C" fn bench_hold_entries(
     alloc: Global,
     arity: usize,
     items: &[Entry],
@@ -51,7 +51,7 @@ pub extern "C" fn dheap_hold_entries(
 
 /// The slice of a heap that is built of the items.
 #[unsafe(no_mangle)]
-pub extern "C" fn dheap_build_entries(
+pub extern "C" fn bench_build_entries(
     alloc: Global,
     arity: usize,
     items: &[Entry],
@@ -64,7 +64,7 @@ pub extern "C" fn dheap_build_entries(
 
 /// The slice of a heap onto which the items were pushed.
 #[unsafe(no_mangle)]
-pub extern "C" fn dheap_push_entries(
+pub extern "C" fn bench_push_entries(
     alloc: Global,
     arity: usize,
     items: &[Entry],
@@ -77,7 +77,7 @@ pub extern "C" fn dheap_push_entries(
 
 /// What comes out of the heap of the items, which are heap ordered at the arity, until none is left.
 #[unsafe(no_mangle)]
-pub extern "C" fn dheap_pop_entries(
+pub extern "C" fn bench_pop_entries(
     alloc: Global,
     arity: usize,
     items: &[Entry],
@@ -92,7 +92,7 @@ pub extern "C" fn dheap_pop_entries(
 /// The item that comes out after each of `more` went into the heap of the items, which are heap ordered at
 /// the arity.
 #[unsafe(no_mangle)]
-pub extern "C" fn dheap_churn_entries(
+pub extern "C" fn bench_churn_entries(
     alloc: Global,
     arity: usize,
     items: &[Entry],

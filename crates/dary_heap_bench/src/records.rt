@@ -23,7 +23,7 @@ pub struct Record {
 
 /// The items as they are, at any arity: no heap is made.
 #[unsafe(no_mangle)]
-pub extern "C" fn dheap_copy_records(
+pub extern "C" fn bench_copy_records(
     alloc: Global,
     _arity: usize,
     items: &[Record],
@@ -39,7 +39,7 @@ pub extern "C" fn dheap_copy_records(
 
 /// The slice of the heap of the items, which are heap ordered at the arity.
 #[unsafe(no_mangle)]
-pub extern "C" fn dheap_hold_records(
+pub extern "C" fn bench_hold_records(
     alloc: Global,
     arity: usize,
     items: &[Record],
@@ -53,7 +53,7 @@ pub extern "C" fn dheap_hold_records(
 
 /// The slice of a heap that is built of the items.
 #[unsafe(no_mangle)]
-pub extern "C" fn dheap_build_records(
+pub extern "C" fn bench_build_records(
     alloc: Global,
     arity: usize,
     items: &[Record],
@@ -66,7 +66,7 @@ pub extern "C" fn dheap_build_records(
 
 /// The slice of a heap onto which the items were pushed.
 #[unsafe(no_mangle)]
-pub extern "C" fn dheap_push_records(
+pub extern "C" fn bench_push_records(
     alloc: Global,
     arity: usize,
     items: &[Record],
@@ -79,7 +79,7 @@ pub extern "C" fn dheap_push_records(
 
 /// What comes out of the heap of the items, which are heap ordered at the arity, until none is left.
 #[unsafe(no_mangle)]
-pub extern "C" fn dheap_pop_records(
+pub extern "C" fn bench_pop_records(
     alloc: Global,
     arity: usize,
     items: &[Record],
@@ -94,7 +94,7 @@ pub extern "C" fn dheap_pop_records(
 /// The item that comes out after each of `more` went into the heap of the items, which are heap ordered at
 /// the arity.
 #[unsafe(no_mangle)]
-pub extern "C" fn dheap_churn_records(
+pub extern "C" fn bench_churn_records(
     alloc: Global,
     arity: usize,
     items: &[Record],

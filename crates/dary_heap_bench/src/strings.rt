@@ -1,7 +1,7 @@
 //! The workloads on strings. They come in as their bytes, one string behind another, and the end of each;
 //! of each string that is written its mark goes out.
 //!
-//! If the ends don't rise within the bytes, or a string isn't UTF-8, a function is refused. The contracts say
+//! If the ends don't rise within the bytes, or a string isn't UTF-8, a function fails. The contracts say
 //! how many marks are written, and where, but not which: the bench compares them.
 ghost use Rattle.std.specs.Prelude.{◌≡◌, ◌≢◌, ◌^◌, ◌-◌, ◌≤◌, length, IfOk, OnErr};
 ghost use Rattle.dary_heap_bench.specs.Writing.{Writes, IsAnswered};
@@ -12,7 +12,7 @@ use std::str;
 
 /// The marks of the strings: no heap is made.
 #[unsafe(no_mangle)]
-pub extern "C" fn dheap_copy_strings(
+pub extern "C" fn bench_copy_strings(
     alloc: Global,
     _arity: usize,
     bytes: &[u8],
@@ -38,7 +38,7 @@ fn copy(alloc: Global, bytes: &[u8], ends: &[usize], out: &mut [u64]) -> Result<
 
 /// The marks of the slice of a heap that is built of the strings.
 #[unsafe(no_mangle)]
-pub extern "C" fn dheap_build_strings(
+pub extern "C" fn bench_build_strings(
     alloc: Global,
     arity: usize,
     bytes: &[u8],
@@ -70,7 +70,7 @@ fn build<const D: usize>(
 
 /// The marks of the slice of a heap onto which the strings were pushed.
 #[unsafe(no_mangle)]
-pub extern "C" fn dheap_push_strings(
+pub extern "C" fn bench_push_strings(
     alloc: Global,
     arity: usize,
     bytes: &[u8],
@@ -109,7 +109,7 @@ fn push<const D: usize>(
 
 /// The marks of what comes out of a heap that is built of the strings, until none is left.
 #[unsafe(no_mangle)]
-pub extern "C" fn dheap_pop_strings(
+pub extern "C" fn bench_pop_strings(
     alloc: Global,
     arity: usize,
     bytes: &[u8],
@@ -145,9 +145,9 @@ fn pop<const D: usize>(
 }
 
 /// The mark of the string that comes out after each of `more` went into a heap that is built of the
-/// strings. If it is refused, some may have been written.
+/// strings. If it fails, some may have been written.
 #[unsafe(no_mangle)]
-pub extern "C" fn dheap_churn_strings(
+pub extern "C" fn bench_churn_strings(
     alloc: Global,
     arity: usize,
     bytes: &[u8],

@@ -1,6 +1,1 @@
-pub mod Churned
-pub mod Edges
-pub mod Pieces
-pub mod Parity
-pub mod Popped
-pub mod Written
+pub mod Sorting

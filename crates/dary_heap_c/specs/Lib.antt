@@ -1,5 +1,2 @@
-pub mod Churning
-pub mod Counting
-pub mod Graph
-pub mod Parity
-pub mod Writing
+pub mod InPlace
+pub mod Keys

@@ -1,7 +1,7 @@
 //! Calls of the public functions that have a precondition, at concrete types. That of `shortest_path` is in
-//! `roads`.
+//! `roads` of `dary_heap_uses`.
 use dary_heap::run::{Command, Reply, run};
-use dary_heap::sift::{Tally, mend_with};
+use dary_heap::sift::{Tally, mend_with, replace_first_with};
 use dary_heap::{BinaryHeap, OctonaryHeap, TernaryHeap};
 use std::alloc::Global;
 use std::process::Abort;
@@ -159,5 +159,24 @@ fn a_run_gives_a_reply_to_each_command(rt: HostRuntime) -> Result<(), Fail> {
             ]
         )
     );
+    Ok(())
+}
+
+// The slice has an item.
+#[test]
+fn the_first_item_is_replaced(rt: HostRuntime) -> Result<(), Fail> {
+    let cases: [(i32, [i32; 5], u64); 3] = [
+        (0, [4, 3, 0, 1, 2], 2),
+        (9, [9, 3, 4, 1, 2], 2),
+        (4, [4, 3, 4, 1, 2], 2),
+    ];
+    for (item, after, made) in cases {
+        let mut items = [5, 3, 4, 1, 2];
+        let mut judge = Tally::new();
+        let first = replace_first_with::<i32, Tally, 2>(&mut items, item, &mut judge);
+        assert_eq!(rt; first, 5);
+        assert_eq!(rt; items, after, "{item}");
+        assert_eq!(rt; judge.made(), made, "{item}");
+    }
     Ok(())
 }

@@ -1,21 +1,17 @@
 -- What becomes of the k greatest once an item more came.
-use Rattle.std.proofs.Common.{◌≡◌, ◌≢◌, ℕ, ◌+◌, ◌*◌, ◌<◌, ◌≤◌, min, true, false, Option, Result, Ok, Err, OnOk, is_ok, List, [], ◌∷◌, ◌++◌, length, sym, ap, ◌∙◌, subst, arith, inl, inr, Some, slice_set, Contains, length-append}
+use Rattle.std.proofs.Common.{◌≡◌, ◌≢◌, ℕ, ◌+◌, ◌*◌, ◌<◌, ◌≤◌, min, Result, Ok, Err, OnOk, is_ok, List, [], ◌∷◌, ◌++◌, length, sym, subst, arith, inl, inr, Some, slice_set, Contains, length-append}
 use Rattle.std.proofs.lemmas.List.{length-map}
-use Rattle.std.proofs.lemmas.List.Elements.{All-contains, All-contains_itself, All-weaker, All-map}
 use Rattle.std.proofs.lemmas.List.Sorted.{IsPermutation-sym, IsPermutation-trans, IsPermutation-cons, IsPermutation-middle, IsPermutation-map, IsPermutation-append_left, IsPermutation-push_more, length_permutation}
 use Rattle.std.specs.Cmp.{IsTotalOrder}
-use Rattle.std.specs.Ordering.{is_lt, is_some_and, ordering_reverse}
 use Rattle.std.specs.declared.cmp.Ordering.{Ordering}
-use Rattle.std.specs.declared.cmp.Ordering.TheVariants.{Less, Equal, Greater}
+use Rattle.std.specs.declared.cmp.Ordering.TheVariants.{Greater}
 use Rattle.std.specs.declared.cmp.Reverse.{Reverse}
 use Rattle.dary_heap.specs.Bag.{IsSameBag, IsGreatest}
 use Rattle.dary_heap.specs.Bounds.{RisesWithin, push_bound, pop_bound}
 use Rattle.dary_heap.specs.HeapOrder.{parent, depth}
 use Rattle.dary_heap.specs.State.{front}
-use Rattle.dary_heap.proofs.Bags.{came_cases}
+use Rattle.dary_heap.proofs.Callers.{came_cases, not_greater-trans, reversed_least, Contains-cases, Contains-first, Contains-later}
 use Rattle.dary_heap.proofs.Depth.{depth-parent}
-use Rattle.dary_heap.proofs.Order.{not_greater-trans}
-use Rattle.dary_heap.proofs.States.{Contains-cases, Contains-first, Contains-later}
 use Rattle.dary_heap_uses.specs.Keeping.{KeepsGreatest, values}
 
 -- what is told of one outcome is told of another with the same variant
@@ -24,24 +20,6 @@ on_ok_of (Ok x) (Ok y) same h f = f h
 on_ok_of (Ok x) (Err e) same h f = tt
 on_ok_of (Err e) (Ok y) same h f = absurd (cc)
 on_ok_of (Err e) (Err d) same h f = tt
-
--- a yes and a no of `<`
-less_yes : (r : Ordering) → is_lt r ≡ true → r ≢ Greater
-less_yes Less h e = cc
-less_yes Equal h e = cc
-less_yes Greater h e = cc
-
-less_no : (r : Ordering) → is_lt r ≡ false → ordering_reverse r ≢ Greater
-less_no Less h e = cc
-less_no Equal h e = cc
-less_no Greater h e = cc
-
-module _ {X : Type 0} {cmp : X → X → Ordering} (total : IsTotalOrder cmp) {partial : X → X → Option Ordering} (agrees : (x y : X) → partial x y ≡ Some (cmp x y)) (x y : X) where
-  pub is_less : is_some_and is_lt (partial x y) ≡ true → cmp x y ≢ Greater
-  is_less h = less_yes (cmp x y) (sym (ap (is_some_and is_lt) (agrees x y)) ∙ h)
-
-  pub is_not_less : is_some_and is_lt (partial x y) ≡ false → cmp y x ≢ Greater
-  is_not_less h e = less_no (cmp x y) (sym (ap (is_some_and is_lt) (agrees x y)) ∙ h) (sym (total.antisymm y x) ∙ e)
 
 module _ {X : Type 0} {cmp : X → X → Ordering} (total : IsTotalOrder cmp) (k : ℕ) (items : List X) where
   -- there was room for it
@@ -99,11 +77,6 @@ module _ {X : Type 0} {cmp : X → X → Ordering} (total : IsTotalOrder cmp) (k
         ];
       }
 
-  -- what no item of a heap in Reverse exceeds is at most each value
-  least_of : (old : List (Reverse X)) (least : Reverse X) → IsGreatest (λ a b. cmp b.0 a.0) old least → (y : X) → Contains (values old) y → cmp least.0 y ≢ Greater
-  least_of old least h y in' =
-      All-contains (λ v. cmp least.0 v ≢ Greater) (values old) y (All-map (λ v. cmp least.0 v ≢ Greater) (λ r. r.0) old (All-weaker (Contains old) (λ r. cmp least.0 r.0 ≢ Greater) (λ r there. h.none_above r there) old (All-contains_itself old))) in'
-
   -- the same three of a heap of items in Reverse
   pub pushed : (x : X) (reversed : Reverse X) (old new : List (Reverse X)) → reversed.0 ≡ x → KeepsGreatest cmp k items (values old) → length old < k → IsSameBag (reversed ∷ old) new → KeepsGreatest cmp k (items ++ x ∷ []) (values new)
   pushed x reversed old new is h room bag =
@@ -113,7 +86,7 @@ module _ {X : Type 0} {cmp : X → X → Ordering} (total : IsTotalOrder cmp) (k
   pub passed_by : (x : X) (least : Reverse X) (old : List (Reverse X)) → KeepsGreatest cmp k items (values old) → k ≤ length old → IsGreatest (λ a b. cmp b.0 a.0) old least → cmp x least.0 ≢ Greater → KeepsGreatest cmp k (items ++ x ∷ []) (values old)
   passed_by x least old h full greatest under =
       let count : length (values old) ≡ length old = length-map old (λ r. r.0) in
-      stayed_out x (values old) h (omega arith) (λ y in'. not_greater-trans total x least.0 y under (least_of old least greatest y in'))
+      stayed_out x (values old) h (omega arith) (λ y in'. not_greater-trans total x least.0 y under ((reversed_least old least greatest).none_above y in'))
 
   pub none_kept : (x : X) → KeepsGreatest cmp k items (values []) → k ≤ 0 → KeepsGreatest cmp k (items ++ x ∷ []) (values [])
   none_kept x h full = stayed_out x [] h full (λ y in'. let none : in'.0 < 0 = in'.1 in absurd (omega arith))
@@ -124,7 +97,7 @@ module _ {X : Type 0} {cmp : X → X → Ordering} (total : IsTotalOrder cmp) (k
       let same : top ≡ least = cc in
       let count : length (values rest) ≡ length rest = length-map rest (λ r. r.0) in
       came_for x top.0 (values rest) (values new) h (omega arith) (subst (λ (v : Reverse X). cmp v.0 x ≢ Greater) (sym same) above)
-      (λ y in'. subst (λ (v : Reverse X). cmp v.0 y ≢ Greater) (sym same) (least_of (top ∷ rest) least greatest y (Contains-later top.0 (values rest) y in')))
+      (λ y in'. subst (λ (v : Reverse X). cmp v.0 y ≢ Greater) (sym same) ((reversed_least (top ∷ rest) least greatest).none_above y (Contains-later top.0 (values rest) y in')))
       (subst (λ v. IsSameBag (v ∷ values rest) (values new)) is (IsPermutation-map (λ r. r.0) (reversed ∷ rest) new bag))
 
 -- a bound that is higher

@@ -1,6 +1,7 @@
 pub mod FirstFew
 pub mod Keeping
 pub mod Merging
+pub mod Routes
 pub mod Running
 pub mod Scheduling
 pub mod Taking

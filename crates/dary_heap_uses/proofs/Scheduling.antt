@@ -11,8 +11,7 @@ use Rattle.std.specs.Ordering.{MatchOrdering, nat_cmp, ordering_then}
 use Rattle.std.specs.declared.cmp.Ordering.{Ordering}
 use Rattle.std.specs.declared.cmp.Ordering.TheVariants.{Less, Equal, Greater}
 use Rattle.dary_heap.specs.Bag.{IsSameBag, IsGreatest}
-use Rattle.dary_heap.proofs.Bags.{holds_none, came_later}
-use Rattle.dary_heap.proofs.States.{Contains-cases}
+use Rattle.dary_heap.proofs.Callers.{holds_none, came_later, Contains-cases}
 use Rattle.dary_heap_uses.specs.Scheduling.{IsNumbered, IsTaken}
 use Rattle.dary_heap_uses.specs.declared.scheduler.Waiting.{Waiting}
 

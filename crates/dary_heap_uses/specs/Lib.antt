@@ -1,5 +1,8 @@
+pub mod Exchange
 pub mod Keeping
+pub mod LeastFirst
 pub mod Merging
+pub mod Routes
 pub mod Scheduling
 pub mod Simulation
 pub mod Timers

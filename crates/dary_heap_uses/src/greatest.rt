@@ -11,21 +11,36 @@ use dary_heap::DaryHeap;
 use std::alloc::{AllocError, Global};
 use std::cmp::Reverse;
 
-/// The `k` greatest items of a stream, or all of them where they are fewer, as a heap whose least item
+/// Returns the `k` greatest items of a stream, or all if they are fewer, as a heap whose least item
 /// comes out first.
 ///
-/// No item that is left out is strictly greater than one that is kept. Of equal items any may stay. It
-/// never holds more than `k` items. The caller owes that the stream ends. It is refused only for want of
-/// memory for the items that are kept.
+/// No item that is left out is strictly greater than one that is kept. Of equal items any may stay.
+/// It never holds more than `k` items.
 ///
-/// Beside one comparison with the least for each item that finds no room, the heap makes for each item at
-/// most as many as for a push onto `k` items and a pop from `k`.
+/// # Preconditions
+///
+/// - The stream ends.
+///
+/// # Errors
+///
+/// Returns `AllocError` if memory allocation for the kept items fails. All items are dropped then.
+///
+/// # Examples
 ///
 /// ```
+/// use dary_heap::DaryHeap;
+/// use dary_heap_uses::greatest::greatest;
+/// use std::cmp::Reverse;
+///
 /// let mut kept: DaryHeap<_, 4> = greatest(alloc, [3, 8, 1, 5], 2)?;
 /// assert_eq!(rt; kept.pop(), Some(Reverse(5)));
 /// assert_eq!(rt; kept.pop(), Some(Reverse(8)));
 /// ```
+///
+/// # Time
+///
+/// For each item one comparison with the least that is kept, and in the heap at most as many
+/// comparisons as a push onto `k` items and a pop from `k` take.
 pub fn greatest<T: Ord + Drop, I: IntoIterator<Item = T>, const D: usize>(
     alloc: Global,
     stream: I,
@@ -41,7 +56,7 @@ pub fn greatest<T: Ord + Drop, I: IntoIterator<Item = T>, const D: usize>(
     Ok(kept)
 }
 
-/// Takes an item in while fewer than `k` are kept, and later in the place of the least, where that is
+/// Takes an item in while fewer than `k` are kept, and later in the place of the least, if that is
 /// strictly less.
 fn offer<T: Ord + Drop, const D: usize>(
     kept: &mut DaryHeap<Reverse<T>, D>,

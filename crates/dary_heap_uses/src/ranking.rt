@@ -7,11 +7,18 @@ ghost use Rattle.dary_heap_uses.specs.Keeping.{KeepsGreatest};
 use dary_heap::DaryHeap;
 use std::alloc::{AllocError, Global};
 
-/// The items of a heap in descending order. Equal items come in any order.
+/// Returns the items of a heap in descending order. Equal items come in any order.
 ///
-/// It is refused only for want of memory, and then all items are given up.
+/// # Errors
+///
+/// Returns `AllocError` if memory allocation fails. All items are dropped then.
+///
+/// # Examples
 ///
 /// ```
+/// use dary_heap::DaryHeap;
+/// use dary_heap_uses::ranking::ranked;
+///
 /// let heap = DaryHeap::<_, 3>::from(vec![in alloc; 3, 8, 1, 5]?);
 /// assert_eq!(rt; ranked(alloc, heap)?.as_slice(), [8, 5, 3, 1].as_slice());
 /// ```
@@ -25,12 +32,21 @@ pub fn ranked<T: Ord + Drop, const D: usize>(
     heap.into_iter_sorted().collect(alloc)
 }
 
-/// The first `k` items of the ranking, or all of them where they are fewer.
+/// Returns the first `k` items of the ranking, or all if they are fewer.
 ///
-/// No item that is left out is strictly greater than one of them. Of equal items any may be left out. It
-/// is refused only for want of memory, and then all items are given up.
+/// No item that is left out is strictly greater than one of them. Of equal items any may be left
+/// out.
+///
+/// # Errors
+///
+/// Returns `AllocError` if memory allocation fails. All items are dropped then.
+///
+/// # Examples
 ///
 /// ```
+/// use dary_heap::DaryHeap;
+/// use dary_heap_uses::ranking::first_ranked;
+///
 /// let heap = DaryHeap::<_, 3>::from(vec![in alloc; 3, 8, 1, 5]?);
 /// assert_eq!(rt; first_ranked(alloc, heap, 2)?.as_slice(), [8, 5].as_slice());
 /// ```

@@ -24,14 +24,21 @@ pub struct Waiting<J> {
     pub job: J,
 }
 
-/// Jobs that wait, in room that was reserved once.
+/// Jobs that wait, in room that was reserved once. The job of the greatest priority is taken first,
+/// and of one priority the one that came first.
+///
+/// # Examples
 ///
 /// ```
+/// use dary_heap_uses::scheduler::Scheduler;
+///
 /// let mut scheduler = Scheduler::with_room(alloc, 2)?;
 /// scheduler.add(1, "sweep")?;
 /// scheduler.add(5, "cook")?;
 /// assert_eq!(rt; scheduler.add(9, "sing"), Err("sing"));
 /// assert_eq!(rt; scheduler.take(), Some("cook"));
+/// assert_eq!(rt; scheduler.take(), Some("sweep"));
+/// assert_eq!(rt; scheduler.take(), None);
 /// ```
 #[derive(Drop)]
 pub struct Scheduler<J> {
@@ -52,7 +59,11 @@ impl<J> Model for Scheduler<J> {
 impl<J> Scheduler<J> {
     ghost use Rattle.dary_heap_uses.specs.Scheduling.{waiting, IsTaken};
 
-    /// No jobs, with room for so many. It is refused for want of memory.
+    /// Returns a scheduler without jobs, with room for `room` of them.
+    ///
+    /// # Errors
+    ///
+    /// Returns `AllocError` if memory allocation fails.
     pub fn with_room(alloc: Global, room: usize) -> Result<Scheduler<J>, AllocError>
     where
         J: Drop,
@@ -65,38 +76,43 @@ impl<J> Scheduler<J> {
         Ok(Scheduler { jobs, came: 0 })
     }
 
-    /// How many jobs wait.
+    /// Returns the number of jobs that wait.
     pub fn len(&self) -> usize
         ensures { result ≡ length self.now.waiting }
     {
         self.jobs.len()
     }
 
-    /// Whether no job waits.
+    /// Returns `true` if no job waits.
     pub fn is_empty(&self) -> bool
         ensures { IsTrue result ↔ (self.now.waiting ≡ []) }
     {
         self.jobs.is_empty()
     }
 
-    /// How many jobs came so far, without those that were refused.
+    /// Returns the number of jobs added so far.
     pub fn came(&self) -> u64
         ensures { result ≡ self.now.came }
     {
         self.came
     }
 
-    /// Adds a job. It takes no memory: where all room is in use, and only there, the job comes back and
-    /// nothing changes.
+    /// Adds a job. It allocates no memory.
     ///
-    /// The caller owes that fewer than `u64::MAX` jobs came.
+    /// # Preconditions
+    ///
+    /// - Fewer than `u64::MAX` jobs were added so far.
+    ///
+    /// # Errors
+    ///
+    /// Returns the job if all room is in use. Nothing has changed then.
     pub fn add(&mut self, priority: u32, job: J) -> Result<(), J>
         requires { self.old.came < u64.MAX }
         ensures waits { OnOk result (IsSameBag (waiting priority self.old.came job ∷ self.old.waiting) self.new.waiting) }
         ensures came { OnOk result (self.new.came ≡ self.old.came + 1) }
         ensures room { self.new.room ≡ self.old.room }
 
-        // It is refused only where all room is in use, and then nothing has changed.
+        // It fails only if all room is in use, and then nothing has changed.
         ensures succeeds { length self.old.waiting < self.old.room → IsOk result }
         ensures full { OnErr result (self.old.room ≤ length self.old.waiting) }
         ensures returned { IfErr result (λ back. back ≡ job) }
@@ -117,7 +133,8 @@ impl<J> Scheduler<J> {
         Ok(())
     }
 
-    /// Takes the job that is to come first, or gives `None` exactly where none waits. The room stays.
+    /// Removes the job that is to come first and returns it, or returns `None` if no job waits. The
+    /// room stays the same.
     pub fn take(&mut self) -> Option<J>
         ensures variant { IsSome result ↔ (0 < length self.old.waiting) }
         ensures first { IfSome result (λ job. IsTaken self.old.waiting job self.new.waiting) }

@@ -30,14 +30,24 @@ pub trait Handler {
     /// It handled this event, scheduled these, and was changed so.
     ghost handles: { Self → Event → List Event → Self → Type 0 };
 
-    /// Handles an event, and gives the further events that it schedules. The present moment is that of the
-    /// event, and none of them is before it.
+    /// Handles an event, and returns the further events that it schedules. The present moment is
+    /// that of the event, and none of them is before it.
     fn handle(&mut self, event: Event) -> Vec<Event>
         ensures handled { handles self.old event result.items self.new }
         ensures not_before { All (λ next. event.moment ≤ next.moment) result.items };
 }
 
 /// The present moment and the events that wait, none of which is before it.
+///
+/// # Examples
+///
+/// ```
+/// use dary_heap_uses::simulation::{Event, Simulation};
+///
+/// let mut simulation = Simulation::new(alloc);
+/// simulation.schedule(Event { moment: 3, kind: 1 })?;
+/// assert_eq!(rt; simulation.moment(), 0);
+/// ```
 #[derive(Drop)]
 pub struct Simulation {
     moment: u64,
@@ -56,7 +66,7 @@ impl Model for Simulation {
 }
 
 impl Simulation {
-    /// A simulation at moment 0 in which no event waits. It takes no memory.
+    /// Returns a simulation at moment 0 in which no event waits. It allocates no memory.
     pub fn new(alloc: Global) -> Simulation
         ensures moment { result.moment ≡ 0 }
         ensures waiting { result.waiting ≡ [] }
@@ -69,7 +79,8 @@ impl Simulation {
         }
     }
 
-    /// The present moment: that of the event that was handled last. No event that waits is before it.
+    /// Returns the present moment: that of the event that was handled last. No event that waits is
+    /// before it.
     pub fn moment(&self) -> u64
         ensures moment { result ≡ self.now.moment }
         ensures none_before { All (λ event. self.now.moment ≤ event.moment) self.now.waiting }
@@ -77,9 +88,13 @@ impl Simulation {
         self.moment
     }
 
-    /// Makes room for so many more events, and perhaps for some beyond. Below that room none is refused.
+    /// Reserves room for at least `additional` more events. After `Ok` that many can be scheduled
+    /// without an error.
     ///
-    /// It is refused only where that room was missing, and then nothing has changed.
+    /// # Errors
+    ///
+    /// Returns `AllocError` if memory allocation fails, which happens only if that room was
+    /// missing. Nothing has changed then.
     pub fn reserve(&mut self, additional: usize) -> Result<(), AllocError>
         ensures moment { self.new.moment ≡ self.old.moment }
         ensures waiting { self.new.waiting ≡ self.old.waiting }
@@ -91,11 +106,20 @@ impl Simulation {
         self.waiting.reserve(additional)
     }
 
-    /// Schedules an event. The caller owes that it is not before the present moment.
+    /// Schedules an event.
     ///
-    /// It takes memory only where all room is in use. Where there is none for it, it comes back, and
-    /// nothing has changed. The heap makes at most as many comparisons as for a push onto the events that
-    /// wait.
+    /// # Preconditions
+    ///
+    /// - The event is not before the present moment.
+    ///
+    /// # Errors
+    ///
+    /// Returns the event if memory allocation fails, which happens only if all room is in use.
+    /// Nothing has changed then.
+    ///
+    /// # Time
+    ///
+    /// At most as many comparisons as a push onto the events that wait.
     pub fn schedule(&mut self, event: Event) -> Result<(), Event>
         requires { self.old.moment ≤ event.moment }
         ensures scheduled { OnOk result (IsSameBag (event ∷ self.old.waiting) self.new.waiting) }
@@ -104,7 +128,7 @@ impl Simulation {
         ensures room { self.old.room ≤ self.new.room }
         ensures kept { length self.old.waiting < self.old.room → self.new.room ≡ self.old.room }
 
-        // It is refused only where all room is in use, and then nothing has changed.
+        // It fails only if all room is in use, and then nothing has changed.
         ensures succeeds { length self.old.waiting < self.old.room → IsOk result }
         ensures full { OnErr result (self.old.room ≤ length self.old.waiting) }
         ensures returned { IfErr result (λ back. back ≡ event) }
@@ -117,12 +141,18 @@ impl Simulation {
     }
 
     /// Handles the events up to an end in the order of their moments, those too that are scheduled
-    /// meanwhile, but no more than the budget allows. It gives the number of events that it handled: where
-    /// that is below the budget, no event up to the end waits any more.
+    /// meanwhile, but no more than the budget allows. Returns the number of events that it handled:
+    /// if that is below the budget, no event up to the end waits any more.
     ///
-    /// Where there is no room and no memory for what the handler scheduled last, these events come back, and
-    /// nothing is handled after that. For each event that it handles the heap makes at most as many
-    /// comparisons as for a pop of the events that wait then and a push of each that is scheduled.
+    /// # Errors
+    ///
+    /// Returns the events that the handler scheduled last, if memory allocation for them fails.
+    /// Nothing is handled after that.
+    ///
+    /// # Time
+    ///
+    /// For each event that it handles at most as many comparisons as a pop of the events that wait
+    /// then and a push of each that is scheduled.
     pub fn run<H: Handler>(
         &mut self,
         handler: &mut H,
@@ -160,7 +190,7 @@ impl Simulation {
         Some(event)
     }
 
-    /// Schedules all these events. Where there is no memory for all of them, they come back and nothing
+    /// Schedules all these events. If memory allocation for them fails, it returns them and nothing
     /// has changed.
     fn schedule_all(&mut self, events: Vec<Event>) -> Result<(), Vec<Event>>
         requires { All (λ event. self.old.moment ≤ event.moment) events.items }

@@ -22,6 +22,20 @@ pub struct Timer {
 }
 
 /// The timers that are set.
+///
+/// # Examples
+///
+/// ```
+/// use dary_heap_uses::timers::{Timer, TimerQueue};
+///
+/// let mut queue = TimerQueue::new(alloc);
+/// queue.set(Timer { moment: 9, name: 1 })?;
+/// queue.set(Timer { moment: 3, name: 2 })?;
+/// let mut due = Vec::new(alloc);
+/// queue.take_due(5, &mut due)?;
+/// assert_eq!(rt; due.as_slice(), [Timer { moment: 3, name: 2 }].as_slice());
+/// assert_eq!(rt; queue.take_next(5), None);
+/// ```
 #[derive(Drop)]
 pub struct TimerQueue {
     waiting: QuaternaryHeap<Reverse<Timer>>,
@@ -37,7 +51,7 @@ impl Model for TimerQueue {
 }
 
 impl TimerQueue {
-    /// A queue without timers. It takes no memory.
+    /// Returns a queue without timers. It allocates no memory.
     pub fn new(alloc: Global) -> TimerQueue
         ensures set { result.set ≡ [] }
         ensures room { result.room ≡ 0 }
@@ -48,9 +62,13 @@ impl TimerQueue {
         }
     }
 
-    /// Makes room for so many more timers, and perhaps for some beyond. Below that room none is refused.
+    /// Reserves room for at least `additional` more timers. After `Ok` that many can be set without
+    /// an error.
     ///
-    /// It is refused only where that room was missing, and then nothing has changed.
+    /// # Errors
+    ///
+    /// Returns `AllocError` if memory allocation fails, which happens only if that room was
+    /// missing. Nothing has changed then.
     pub fn reserve(&mut self, additional: usize) -> Result<(), AllocError>
         ensures set { self.new.set ≡ self.old.set }
         ensures uncounted { self.new.comparisons ≡ self.old.comparisons }
@@ -61,17 +79,23 @@ impl TimerQueue {
         self.waiting.reserve(additional)
     }
 
-    /// Sets a timer. It takes memory only where all room is in use. Where there is none for it, it comes
-    /// back, and nothing has changed.
+    /// Sets a timer.
     ///
-    /// The heap makes at most as many comparisons as for a push onto the timers that are set.
+    /// # Errors
+    ///
+    /// Returns the timer if memory allocation fails, which happens only if all room is in use.
+    /// Nothing has changed then.
+    ///
+    /// # Time
+    ///
+    /// At most as many comparisons as a push onto the timers that are set.
     pub fn set(&mut self, timer: Timer) -> Result<(), Timer>
         ensures set { OnOk result (IsSameBag (timer ∷ self.old.set) self.new.set) }
         ensures counted { OnOk result (RisesWithin self.old.comparisons self.new.comparisons (push_bound 4 (length self.old.set))) }
         ensures room { self.old.room ≤ self.new.room }
         ensures kept { length self.old.set < self.old.room → self.new.room ≡ self.old.room }
 
-        // It is refused only where all room is in use, and then nothing has changed.
+        // It fails only if all room is in use, and then nothing has changed.
         ensures succeeds { length self.old.set < self.old.room → IsOk result }
         ensures full { OnErr result (self.old.room ≤ length self.old.set) }
         ensures returned { IfErr result (λ back. back ≡ timer) }
@@ -83,10 +107,13 @@ impl TimerQueue {
         }
     }
 
-    /// Takes the earliest timer if its moment has come, and otherwise none.
+    /// Removes the earliest timer and returns it if its moment has come, and otherwise returns
+    /// `None`.
     ///
-    /// The heap makes at most as many comparisons as for a pop of the timers that are set, and none if no
-    /// timer is taken.
+    /// # Time
+    ///
+    /// At most as many comparisons as a pop of the timers that are set, and none if it returns
+    /// `None`.
     pub fn take_next(&mut self, now: u64) -> Option<Timer>
         ensures earliest { IfSome result (IsEarliest self.old.set) }
         ensures due { IfSome result (λ timer. timer.moment ≤ now) }
@@ -100,11 +127,17 @@ impl TimerQueue {
         Some(timer)
     }
 
-    /// Takes all timers whose moments have come, in the order of these, and adds them to a list.
+    /// Removes all timers whose moments have come, in the order of these, and adds them to a list.
     ///
-    /// It is refused only where the list has no room for all timers that are set and gets no memory for
-    /// them; then nothing has changed. For each timer that is taken the heap makes at most as many
-    /// comparisons as for a pop of the timers that are still set.
+    /// # Errors
+    ///
+    /// Returns `AllocError` if memory allocation fails, which happens only if the list has no room
+    /// for all timers that are set. Nothing has changed then.
+    ///
+    /// # Time
+    ///
+    /// For each timer that is taken at most as many comparisons as a pop of the timers that are
+    /// still set.
     pub fn take_due(&mut self, now: u64, due: &mut Vec<Timer>) -> Result<(), AllocError>
         ensures taken { OnOk result (AddsDue now self.old.set self.new.set due.old.items due.new.items) }
         ensures counted { RisesWithin self.old.comparisons self.new.comparisons (pops_bound 4 (length self.old.set) - pops_bound 4 (length self.new.set)) }

@@ -40,11 +40,11 @@ static PAIRS: [u8; 200] = *b"00010203040506070809\
     80818283848586878889\
     90919293949596979899";
 
-/// Carries out the commands that `input` holds, writes the answers to `output`, and answers the status
+/// Carries out the commands that `input` holds, writes the answers to `output`, and returns the status
 /// that the program ends with.
 ///
 /// `words` are the arguments after the program's own name: one digit from `1` to `8`, which is the arity
-/// of the heap. The status is 0 where all went well. Otherwise a line on `errors` says what was met first:
+/// of the heap. The status is 0 if all went well. Otherwise a line on `errors` says what was met first:
 /// other words (2), a bad line (1), a lack of memory (3) or a stream that failed (4). Nothing is written
 /// to `output` before all commands have run. Whether `errors` can be written changes no status.
 pub fn serve<R: Read, W: Write, E: Write>(
@@ -335,7 +335,7 @@ fn write_number(negative: bool, size: u64, after: u8, held: &mut Vec<u8>) -> Res
     held.extend_from_slice(&line[digits - 1..])
 }
 
-/// Puts the digits of a number before the last byte of a line, and answers where they begin.
+/// Puts the digits of a number before the last byte of a line, and returns where they begin.
 fn put_digits(size: u64, line: &mut [u8; LONGEST]) -> usize
     ensures low { 0 < result }
     ensures high { result < 22 }

@@ -8,7 +8,7 @@ use std::env::{Env, FillError};
 use std::io::{Read, Write};
 
 /// Serves by the arguments after the program's own name, and returns the status that the program ends
-/// with. A growth that is refused before it serves is a lack of memory too.
+/// with. Memory allocation that fails before it serves is a lack of memory too.
 pub(crate) fn start<V: Env, R: Read, W: Write, E: Write>(
     env: &V,
     alloc: Global,

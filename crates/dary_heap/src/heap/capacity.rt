@@ -7,8 +7,26 @@ use crate::sift::ByOrd;
 use std::alloc::{AllocError, Global};
 
 impl<T: Ord, const D: usize> DaryHeap<T, D> {
-    /// An empty heap with room for at least `capacity` items. It is refused only for want of memory,
-    /// and never at a capacity of 0. It compares nothing.
+    /// Returns an empty heap with room for at least `capacity` items.
+    ///
+    /// # Errors
+    ///
+    /// Returns `AllocError` if memory allocation fails. With a capacity of 0 nothing is allocated,
+    /// and the call doesn't fail.
+    ///
+    /// # Examples
+    ///
+    /// ```
+    /// use dary_heap::QuaternaryHeap;
+    ///
+    /// let mut heap = QuaternaryHeap::with_capacity(alloc, 10)?;
+    /// assert!(rt; heap.capacity() >= 10);
+    /// heap.push(4)?;
+    /// ```
+    ///
+    /// # Time
+    ///
+    /// No comparison.
     pub fn with_capacity(alloc: Global, capacity: usize) -> Result<Self, AllocError>
         ensures items { IfOk result (λ heap. heap.items ≡ []) }
         ensures capacity { IfOk result (λ heap. capacity ≤ heap.capacity) }
@@ -21,44 +39,137 @@ impl<T: Ord, const D: usize> DaryHeap<T, D> {
         })
     }
 
-    /// Makes room for `additional` more items, and perhaps for some beyond. After an `Ok` as many
-    /// pushes take no memory.
+    /// Reserves room for at least `additional` more items.
     ///
-    /// It does nothing where there is room already. It is refused only where that room was missing, and
-    /// then the heap is as it was. It compares nothing.
+    /// After `Ok` that many pushes allocate no memory, and don't fail. If there is room already, it
+    /// does nothing.
+    ///
+    /// # Errors
+    ///
+    /// Returns `AllocError` if memory allocation fails, which happens only if that room was
+    /// missing. The heap is then as it was.
+    ///
+    /// # Examples
+    ///
+    /// ```
+    /// use dary_heap::BinaryHeap;
+    ///
+    /// let mut heap = BinaryHeap::new(alloc);
+    /// heap.reserve(100)?;
+    /// assert!(rt; heap.capacity() >= 100);
+    /// heap.push(4)?;
+    /// ```
+    ///
+    /// # Time
+    ///
+    /// No comparison.
     pub fn reserve(&mut self, additional: usize) -> Result<(), AllocError>
         ensures { Reserves T.cmp D additional self.old self.new result }
     {
         self.items.reserve(additional)
     }
 
-    /// Makes room for `additional` more items, and for none beyond where it takes memory.
+    /// Reserves room for `additional` more items, and for no more than that if it has to allocate.
     ///
-    /// Otherwise it is as [`DaryHeap::reserve`]. It compares nothing.
+    /// Prefer [`reserve`](DaryHeap::reserve) if more items may follow.
+    ///
+    /// # Errors
+    ///
+    /// As [`reserve`](DaryHeap::reserve).
+    ///
+    /// # Examples
+    ///
+    /// ```
+    /// use dary_heap::BinaryHeap;
+    ///
+    /// let mut heap = BinaryHeap::<i32>::new(alloc);
+    /// heap.reserve_exact(100)?;
+    /// assert_eq!(rt; heap.capacity(), 100);
+    /// ```
+    ///
+    /// # Time
+    ///
+    /// No comparison.
     pub fn reserve_exact(&mut self, additional: usize) -> Result<(), AllocError>
         ensures { ReservesExactly T.cmp D additional self.old self.new result }
     {
         self.items.reserve_exact(additional)
     }
 
-    /// The same as [`DaryHeap::reserve`], which answers a `Result` too.
+    /// Does the same as [`reserve`](DaryHeap::reserve), which returns a `Result` too.
+    ///
+    /// # Errors
+    ///
+    /// As [`reserve`](DaryHeap::reserve).
+    ///
+    /// # Examples
+    ///
+    /// ```
+    /// use dary_heap::TernaryHeap;
+    ///
+    /// let mut heap = TernaryHeap::new(alloc);
+    /// heap.try_reserve(3)?;
+    /// heap.extend([4, 8, 6])?;
+    /// assert_eq!(rt; heap.pop(), Some(8));
+    /// ```
+    ///
+    /// # Time
+    ///
+    /// No comparison.
     pub fn try_reserve(&mut self, additional: usize) -> Result<(), AllocError>
         ensures { Reserves T.cmp D additional self.old self.new result }
     {
         self.reserve(additional)
     }
 
-    /// The same as [`DaryHeap::reserve_exact`], which answers a `Result` too.
+    /// Does the same as [`reserve_exact`](DaryHeap::reserve_exact), which returns a `Result` too.
+    ///
+    /// # Errors
+    ///
+    /// As [`reserve`](DaryHeap::reserve).
+    ///
+    /// # Examples
+    ///
+    /// ```
+    /// use dary_heap::TernaryHeap;
+    ///
+    /// let mut heap = TernaryHeap::new(alloc);
+    /// heap.try_reserve_exact(3)?;
+    /// heap.extend([4, 8, 6])?;
+    /// assert_eq!(rt; heap.pop(), Some(8));
+    /// ```
+    ///
+    /// # Time
+    ///
+    /// No comparison.
     pub fn try_reserve_exact(&mut self, additional: usize) -> Result<(), AllocError>
         ensures { ReservesExactly T.cmp D additional self.old self.new result }
     {
         self.reserve_exact(additional)
     }
 
-    /// Gives back the room that is beyond both the length and `min_capacity`.
+    /// Shrinks the capacity to `min_capacity`, or to the length if that is greater.
     ///
-    /// It does nothing where there is none. A smaller block may be refused. The items stay as they are
-    /// either way. It compares nothing.
+    /// If the capacity is no greater than that, it does nothing.
+    ///
+    /// # Errors
+    ///
+    /// Returns `AllocError` if the allocator can't provide the smaller block. The items stay as
+    /// they are, and the capacity has not grown.
+    ///
+    /// # Examples
+    ///
+    /// ```
+    /// use dary_heap::BinaryHeap;
+    ///
+    /// let mut heap = BinaryHeap::<i32>::with_capacity(alloc, 100)?;
+    /// heap.shrink_to(10)?;
+    /// assert_eq!(rt; heap.capacity(), 10);
+    /// ```
+    ///
+    /// # Time
+    ///
+    /// No comparison.
     pub fn shrink_to(&mut self, min_capacity: usize) -> Result<(), AllocError>
         ensures { Shrinks T.cmp D (max (length self.old.items) min_capacity) self.old self.new result }
     {
@@ -70,9 +181,26 @@ impl<T: Ord, const D: usize> DaryHeap<T, D> {
         Ok(())
     }
 
-    /// Gives back the room that is beyond the length.
+    /// Shrinks the capacity to the length.
     ///
-    /// A smaller block may be refused. The items stay as they are either way. It compares nothing.
+    /// # Errors
+    ///
+    /// As [`shrink_to`](DaryHeap::shrink_to).
+    ///
+    /// # Examples
+    ///
+    /// ```
+    /// use dary_heap::BinaryHeap;
+    ///
+    /// let mut heap = BinaryHeap::with_capacity(alloc, 100)?;
+    /// heap.push(7)?;
+    /// heap.shrink_to_fit()?;
+    /// assert_eq!(rt; heap.capacity(), 1);
+    /// ```
+    ///
+    /// # Time
+    ///
+    /// No comparison.
     pub fn shrink_to_fit(&mut self) -> Result<(), AllocError>
         ensures { Shrinks T.cmp D (length self.old.items) self.old self.new result }
     {

@@ -13,18 +13,30 @@ use super::DaryHeap;
 use crate::sift::{ByOrd, mend_with};
 
 impl<T: Ord, const D: usize> DaryHeap<T, D> {
-    /// Takes a greatest item out, if the predicate answers yes to it.
+    /// Removes a greatest item and returns it, if the predicate returns `true` for it.
     ///
-    /// On an empty heap the predicate is not called. Otherwise it is called once, on the item that
-    /// `peek` shows, and the heap pops exactly where it answers yes. It asks that the predicate may be
-    /// called on that item. It takes at most as many comparisons as a pop, and none where
-    /// nothing is popped.
+    /// The predicate is called once, on the item that [`peek`](DaryHeap::peek) returns, and not at
+    /// all on an empty heap. If it returns `false`, or the heap is empty, the call returns `None`
+    /// and nothing changes.
+    ///
+    /// # Preconditions
+    ///
+    /// - `predicate` may be called on the item that `peek` returns.
+    ///
+    /// # Examples
     ///
     /// ```
+    /// use dary_heap::BinaryHeap;
+    ///
     /// let mut heap = BinaryHeap::from(vec![in alloc; 1, 2]?);
     /// assert_eq!(rt; heap.pop_if(|item| *item & 1 == 0), Some(2));
     /// assert_eq!(rt; heap.pop_if(|item| *item & 1 == 0), None);
+    /// assert_eq!(rt; heap.len(), 1);
     /// ```
+    ///
+    /// # Time
+    ///
+    /// At most as many comparisons as a [`pop`](DaryHeap::pop), and none if it returns `None`.
     pub fn pop_if<F: FnOnce(&T) -> bool>(&mut self, predicate: F) -> Option<T>
         requires { (item : T) → slice_get self.old.items 0 ≡ Some item → FnOnceTakesAt F.FnOnce predicate item }
         ensures empty { self.old.items ≡ [] → result ≡ None }
@@ -36,7 +48,7 @@ impl<T: Ord, const D: usize> DaryHeap<T, D> {
         ensures counted { RisesWithin self.old.comparisons self.new.comparisons (pop_bound D (length self.old.items)) }
         ensures capacity { self.new.capacity ≡ self.old.capacity }
 
-        // Where nothing is popped nothing changes.
+        // If nothing is popped nothing changes.
         ensures unchanged { IfNone result (self.new ≡ self.old) }
     {
         if predicate(self.peek()?) {
@@ -46,19 +58,30 @@ impl<T: Ord, const D: usize> DaryHeap<T, D> {
         }
     }
 
-    /// Keeps the items that the predicate answers yes of, and gives up the others.
+    /// Keeps the items for which the predicate returns `true`, and drops the others.
     ///
-    /// It is asked once about each item, in the order of `as_slice`. It asks that the predicate may be
-    /// called so. Where nothing is removed the heap stays as it is and nothing is compared. Otherwise
-    /// the items that are kept stay in their order, and those from the first removed place on are
-    /// mended: it takes at most as many comparisons as the repair of a tail of as many items as are left
-    /// from that place on.
+    /// The predicate is called once for each item, in the order of
+    /// [`as_slice`](DaryHeap::as_slice). If it returns `true` for all, nothing changes. The
+    /// capacity stays the same.
+    ///
+    /// # Preconditions
+    ///
+    /// - `f` may be called on the items in that order.
+    ///
+    /// # Examples
     ///
     /// ```
+    /// use dary_heap::BinaryHeap;
+    ///
     /// let mut heap = BinaryHeap::from(vec![in alloc; 9, 8, 2, 1, 3]?);
     /// heap.retain(|item| *item & 1 == 1);
     /// assert_eq!(rt; heap.as_slice(), [9, 1, 3].as_slice());
     /// ```
+    ///
+    /// # Time
+    ///
+    /// As [`mend_with`](crate::sift::mend_with) of the items that are kept, from the first removed
+    /// place on; no comparison if none is removed.
     pub fn retain<F: FnMut(&T) -> bool>(&mut self, f: F)
     where
         T: Drop,
@@ -71,7 +94,21 @@ impl<T: Ord, const D: usize> DaryHeap<T, D> {
         mend_with::<T, ByOrd, D>(self.items.as_mut_slice(), start, &mut self.judge);
     }
 
-    /// Gives up all items. It compares nothing, and the capacity stays.
+    /// Drops all items. The capacity stays the same.
+    ///
+    /// # Examples
+    ///
+    /// ```
+    /// use dary_heap::BinaryHeap;
+    ///
+    /// let mut heap = BinaryHeap::from(vec![in alloc; 1, 3]?);
+    /// heap.clear();
+    /// assert!(rt; heap.is_empty());
+    /// ```
+    ///
+    /// # Time
+    ///
+    /// No comparison.
     pub fn clear(&mut self)
     where
         T: Drop,
@@ -83,8 +120,8 @@ impl<T: Ord, const D: usize> DaryHeap<T, D> {
     }
 }
 
-/// Keeps the items that `f` answers yes of, in their order, and answers how many stand before the first
-/// that was removed.
+/// Keeps the items for which `f` returns `true`, in their order, and returns how many stand before the
+/// first that was removed.
 fn keep<T: Drop, F: FnMut(&T) -> bool>(items: &mut Vec<T>, mut f: F) -> usize
     requires { TakesInTurn F.FnMut f items.old.items }
     ensures kept { (answers : List Bool) × (after : F) × (length answers ≡ length items.old.items) × ReturnsInTurn (CalledAt F.FnMut) f answers items.old.items after × (items.new.items ≡ items_where_true answers items.old.items) × (result ≡ first_no answers) }

@@ -19,20 +19,31 @@ use std::mem;
 impl<T: Ord, const D: usize> DaryHeap<T, D> {
     /// Moves all items of `other` into this heap, and leaves `other` empty.
     ///
-    /// The longer of the two receives the items of the other, this one where they are as long. Room is
-    /// reserved in it first. That is refused only where its capacity is below the sum of the lengths,
-    /// and then both heaps are as they were. Otherwise the items of the shorter are put behind and
-    /// mended: it takes at most as many comparisons as the repair of that tail. Where `other` is empty
-    /// this heap's slice stays as it is. Each heap keeps its own
-    /// count, and `other` compares nothing. Where `other` is the longer the two exchange their capacities.
+    /// The items of the shorter heap go behind those of the longer one: if `other` is the longer,
+    /// the two exchange their vectors first, and so their capacities. If `other` is empty, this
+    /// heap's slice stays as it is.
+    ///
+    /// # Errors
+    ///
+    /// Returns `AllocError` if memory allocation fails, which happens only if the capacity of the
+    /// longer heap is less than the sum of the lengths. Both heaps are then as they were.
+    ///
+    /// # Examples
     ///
     /// ```
+    /// use dary_heap::BinaryHeap;
+    ///
     /// let mut heap = BinaryHeap::from(vec![in alloc; 1, 2]?);
     /// let mut other = BinaryHeap::from(vec![in alloc; 3, 4]?);
     /// heap.append(&mut other)?;
     /// assert_eq!(rt; heap.as_slice(), [4, 3, 2, 1].as_slice());
     /// assert!(rt; other.is_empty());
     /// ```
+    ///
+    /// # Time
+    ///
+    /// As [`mend_with`](crate::sift::mend_with) of as many items as the shorter heap has. This heap
+    /// makes the comparisons, `other` makes none.
     pub fn append(&mut self, other: &mut Self) -> Result<(), AllocError>
         ensures bag { OnOk result (IsSameBag (self.old.items ++ other.old.items) self.new.items) }
         ensures emptied { OnOk result (other.new.items ≡ []) }
@@ -43,7 +54,7 @@ impl<T: Ord, const D: usize> DaryHeap<T, D> {
         ensures same_items { OnOk result (other.old.items ≡ [] → self.new.items ≡ self.old.items) }
         ensures other_capacity { OnOk result (other.new.capacity ≡ moving_capacity self.old other.old) }
 
-        // It is refused only where the longer heap lacks room, and then nothing has changed.
+        // It fails only if the longer heap lacks room, and then nothing has changed.
         ensures succeeds { length self.old.items + length other.old.items ≤ receiving_capacity self.old other.old → IsOk result }
         ensures full { OnErr result (receiving_capacity self.old other.old < length self.old.items + length other.old.items) }
         ensures unchanged { OnErr result (self.new ≡ self.old) }
@@ -102,7 +113,7 @@ impl<'a, T: Copy> Element<T> for &'a T {
     }
 }
 
-/// Puts what the iterator gives behind the items while there is room, and answers whether it ended.
+/// Puts what the iterator gives behind the items while there is room, and returns whether it ended.
 ///
 /// The vector comes by value, which keeps its length in a register.
 fn pour<T, X: Element<T>, I: Iterator<Item = X>>(
@@ -123,9 +134,9 @@ fn pour<T, X: Element<T>, I: Iterator<Item = X>>(
     (items, (rest, false))
 }
 
-/// Makes room for one item more and, where there is memory for them, for `others` beyond.
+/// Reserves room for one item more and, if there is memory for them, for `others` beyond.
 ///
-/// So many needn't come, so want of memory for them is no refusal yet.
+/// So many needn't come, so it doesn't fail if there is no memory for them.
 fn make_room<T>(items: &mut Vec<T>, others: usize) -> Result<(), AllocError>
     ensures items { items.new.items ≡ items.old.items }
     ensures len { vec_len items.new ≡ vec_len items.old }
@@ -140,7 +151,7 @@ fn make_room<T>(items: &mut Vec<T>, others: usize) -> Result<(), AllocError>
 
 /// Pushes what the iterator gives, in its order, up to the first item that there is no memory for.
 ///
-/// Where the room is used up it reserves for as many as the iterator has left at least.
+/// If the room is used up it reserves for as many as the iterator has left at least.
 fn push_all<T: Drop, X: Element<T>, I: Iterator<Item = X>>(
     items: &mut Vec<T>,
     iter: I,
@@ -180,18 +191,32 @@ fn extend_heap<T: Ord + Drop, X: Element<T>, U: IntoIterator<Item = X>, const D:
     outcome
 }
 
-/// Adds what the iterator gives, in its order, and mends once.
+/// Adds the items of an iterator, in order, and restores heap order once at the end.
 ///
-/// It asks that the iterator ends. Where nothing comes the slice stays as it is. Where there is no
-/// memory for an item, which comes only at full capacity, the items before it are in the heap, and it
-/// and the rest are given up. It takes at most as many comparisons as the repair of a tail of as many
-/// items as came in.
+/// If the iterator gives none, the slice stays as it is.
+///
+/// # Preconditions
+///
+/// - The iterator ends.
+///
+/// # Errors
+///
+/// Returns `AllocError` if memory allocation fails. The items before the one for which it failed
+/// are then in the heap, at least as many as there was room for, and the others are dropped.
+///
+/// # Examples
 ///
 /// ```
+/// use dary_heap::BinaryHeap;
+///
 /// let mut heap = BinaryHeap::from(vec![in alloc; 3, 1, 2]?);
 /// heap.extend([9, 8])?;
 /// assert_eq!(rt; heap.as_slice(), [9, 8, 2, 1, 3].as_slice());
 /// ```
+///
+/// # Time
+///
+/// As [`mend_with`](crate::sift::mend_with) of as many items as were added.
 impl<T: Ord + Drop, const D: usize> Extend<T> for DaryHeap<T, D> {
     ghost extend_gives = { λ old xs new. IsExtended T.cmp D old xs new };
 
@@ -204,7 +229,19 @@ impl<T: Ord + Drop, const D: usize> Extend<T> for DaryHeap<T, D> {
     }
 }
 
-/// Adds copies of the items whose references the iterator gives, as an extend by the items themselves.
+/// Adds copies of the items whose references the iterator gives. All else is as for the items
+/// themselves.
+///
+/// # Examples
+///
+/// ```
+/// use dary_heap::BinaryHeap;
+///
+/// let more = [9, 8];
+/// let mut heap = BinaryHeap::from(vec![in alloc; 3, 1, 2]?);
+/// heap.extend(&more)?;
+/// assert_eq!(rt; heap.pop(), Some(9));
+/// ```
 impl<'a, T: Ord + Copy + 'a, const D: usize> Extend<&'a T> for DaryHeap<T, D> {
     ghost extend_gives = { λ old xs new. IsExtended T.cmp D old (map (λ x. x.now) xs) new };
 

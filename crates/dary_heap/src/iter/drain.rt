@@ -1,4 +1,4 @@
-//! The iterator of a heap that it leaves empty.
+//! The iterator that empties a heap.
 ghost use Rattle.std.specs.Prelude.{◌≡◌, ◌^◌, ◌<◌, length, IfSome, Some};
 ghost use Rattle.std.specs.Borrow.{sem};
 ghost use Rattle.std.specs.Iterator.{YieldsFirst, YieldsLast, UpTo, item_count};
@@ -10,10 +10,25 @@ use crate::heap::DaryHeap;
 use std::iter::FusedIterator;
 use std::{fmt, mem};
 
-/// The items that were taken out of a heap, in the order in which they were stored there.
+/// An iterator over the items of a heap, in the order in which they were stored. The heap is empty
+/// afterwards.
 ///
-/// A clause sees it by the words of `specs/Drain.antt`: as `drain_rest` the list of the items that are
-/// left.
+/// [`DaryHeap::drain`] returns it. A clause sees it by the words of `specs/Drain.antt`: as
+/// `drain_rest` the list of the items that are left.
+///
+/// # Examples
+///
+/// ```
+/// use dary_heap::BinaryHeap;
+///
+/// let mut heap = BinaryHeap::from(vec![in alloc; 4, 3, 2, 1]?);
+/// let mut items = heap.drain();
+/// assert_eq!(rt; items.next(), Some(4));
+/// assert_eq!(rt; items.next_back(), Some(1));
+/// assert_eq!(rt; items.len(), 2);
+/// drop(items);
+/// assert!(rt; heap.is_empty());
+/// ```
 #[derive(Drop)]
 pub struct Drain<'a, T> {
     rest: IntoIter<T>,
@@ -24,16 +39,25 @@ pub struct Drain<'a, T> {
 impl<T: Ord, const D: usize> DaryHeap<T, D> {
     ghost use Rattle.dary_heap.specs.Drain.{drain_rest, drain_lender, leaves_emptied};
 
-    /// Takes all items out, in the order in which they are stored. It compares nothing.
+    /// Removes all items, and returns an iterator over them, in the order in which they were
+    /// stored.
     ///
-    /// Once the iterator is gone, dropped early or forgotten too, the heap is empty. It hands its vector
-    /// over, so it has no room left then.
+    /// Once the iterator is gone, also if it was dropped early or forgotten, the heap is empty. Its
+    /// vector goes to the iterator, so its capacity is 0 then.
+    ///
+    /// # Examples
     ///
     /// ```
+    /// use dary_heap::BinaryHeap;
+    ///
     /// let mut heap = BinaryHeap::from(vec![in alloc; 1, 3]?);
     /// assert_eq!(rt; heap.drain().next(), Some(3));
     /// assert!(rt; heap.is_empty());
     /// ```
+    ///
+    /// # Time
+    ///
+    /// No comparison.
     pub fn drain(&mut self) -> Drain<'_, T>
         // Once the iterator is gone the heap has no items, no room and the same count.
         ensures* emptied { sem 𝓛 (leaves_emptied T.row D.row T.Ord.own T.PartialEq T.PartialOrd.own self.entry (drain_lender result)) }

@@ -10,8 +10,29 @@ use crate::heap::DaryHeap;
 use std::fmt;
 use std::iter::FusedIterator;
 
-/// Takes the items of a heap out in descending order, each by a pop. Once dropped it leaves the heap
-/// empty: it pops what was not taken, and gives that up.
+/// An iterator over the items of a heap in descending order. Each `next` is a pop, and the heap is
+/// empty afterwards.
+///
+/// [`DaryHeap::drain_sorted`] returns it. When it is dropped, it pops and drops the items that are
+/// left.
+///
+/// # Examples
+///
+/// ```
+/// use dary_heap::BinaryHeap;
+///
+/// let mut heap = BinaryHeap::from(vec![in alloc; 2, 9, 4]?);
+/// let mut items = heap.drain_sorted();
+/// assert_eq!(rt; items.next(), Some(9));
+/// assert_eq!(rt; items.next(), Some(4));
+/// assert_eq!(rt; items.len(), 1);
+/// drop(items);
+/// assert!(rt; heap.is_empty());
+/// ```
+///
+/// # Time
+///
+/// A drop takes at most as many comparisons as the pops of the items that are left.
 pub struct DrainSorted<'a, T: Ord + Drop, const D: usize> {
     heap: &'a mut DaryHeap<T, D>,
 }
@@ -29,7 +50,7 @@ impl<'a, T: Ord + Drop, const D: usize> Drop for DrainSorted<'a, T, D> {
     }
 }
 
-/// Pops what a heap has left, and gives it up.
+/// Pops the items that a heap has left, and drops them.
 #[tactic(auto, using(crate::proofs::Popping::pops_bound_step))]
 fn pop_all<T: Ord + Drop, const D: usize>(heap: &mut DaryHeap<T, D>)
     ensures items { heap.new.items ≡ [] }
@@ -42,17 +63,25 @@ fn pop_all<T: Ord + Drop, const D: usize>(heap: &mut DaryHeap<T, D>)
 impl<T: Ord, const D: usize> DaryHeap<T, D> {
     ghost use Rattle.dary_heap.specs.DrainSorted.{drained_heap, drained_lender, DrainsSorted, KeepsHeapAlong};
 
-    /// Takes the items out in descending order. Equal items come in the order in which pops give them.
+    /// Returns an iterator that removes the items in descending order. It allocates no memory.
     ///
-    /// Each item takes as many comparisons as its pop, and only when it is asked for. Once the iterator
-    /// is dropped, early or not, the heap is empty and keeps its capacity: what was not taken is popped
-    /// then and given up, with as many comparisons as those pops. It takes no memory.
+    /// Equal items come in the order in which pops return them. Once the iterator is dropped, also
+    /// before its end, the heap is empty and keeps its capacity.
+    ///
+    /// # Examples
     ///
     /// ```
+    /// use dary_heap::TernaryHeap;
+    ///
     /// let mut heap = TernaryHeap::from(vec![in alloc; 1, 2, 3, 4, 5]?);
     /// assert_eq!(rt; heap.drain_sorted().next(), Some(5));
     /// assert!(rt; heap.is_empty());
     /// ```
+    ///
+    /// # Time
+    ///
+    /// No comparison, and then at most as many as a [`pop`](DaryHeap::pop) for each item, also for
+    /// those that the drop pops.
     pub fn drain_sorted(&mut self) -> DrainSorted<'_, T, D>
     where
         T: Drop,

@@ -1,4 +1,4 @@
-//! The iterator that gives the items of a heap away.
+//! The iterator that consumes a heap.
 ghost use Rattle.std.specs.Prelude.{◌≡◌, ◌^◌, ◌<◌, length, vec_len, Some, Contains, IfOk, IfSome};
 ghost use Rattle.std.specs.Iterator.{YieldsFirst, YieldsLast, UpTo, item_count};
 ghost use Rattle.std.specs.Iterator.Runs.{YieldsInOrder, YieldsInReverse};
@@ -11,9 +11,21 @@ use std::fmt;
 use std::iter::FusedIterator;
 use std::marker::Model;
 
-/// The items of a heap, in the order in which they were stored there.
+/// An iterator over the items of a heap, in the order in which they were stored.
 ///
-/// A clause sees it as the list of the items that are left.
+/// The heap's `into_iter` returns it. A clause sees it as the list of the items that are left.
+///
+/// # Examples
+///
+/// ```
+/// use dary_heap::BinaryHeap;
+///
+/// let heap = BinaryHeap::from(vec![in alloc; 4, 3, 2, 1]?);
+/// let mut items = heap.into_iter();
+/// assert_eq!(rt; items.next(), Some(4));
+/// assert_eq!(rt; items.next_back(), Some(1));
+/// assert_eq!(rt; items.len(), 2);
+/// ```
 #[derive(Drop)]
 pub struct IntoIter<T> {
     pub(super) rest: VecDeque<T>,
@@ -37,10 +49,31 @@ impl<T> IntoIter<T> {
         }
     }
 
-    /// An iterator over clones of what is left. It compares nothing.
+    /// Returns an iterator over clones of what is left.
     ///
-    /// It asks that each item's clone gives the same value. It is refused only for want of memory, here
-    /// or in an item's `clone`.
+    /// # Preconditions
+    ///
+    /// - Each item's clone has the same value as the item.
+    ///
+    /// # Errors
+    ///
+    /// Returns `AllocError` if memory allocation fails, here or in an item's `clone`.
+    ///
+    /// # Examples
+    ///
+    /// ```
+    /// use dary_heap::BinaryHeap;
+    ///
+    /// let mut items = BinaryHeap::from(vec![in alloc; 1, 2, 3]?).into_iter();
+    /// assert_eq!(rt; items.next(), Some(3));
+    /// let mut copy = items.clone()?;
+    /// assert_eq!(rt; copy.next(), Some(2));
+    /// assert_eq!(rt; items.len(), 2);
+    /// ```
+    ///
+    /// # Time
+    ///
+    /// No comparison.
     pub fn clone(&self) -> Result<Self, AllocError>
     where
         T: Clone + Drop,
@@ -93,13 +126,22 @@ impl<T: fmt::Debug> fmt::Debug for IntoIter<T> {
     }
 }
 
-/// The items in the order in which they are stored, by value. It compares nothing and takes no memory.
+/// Returns an iterator over the items, in the order in which they are stored. It allocates no
+/// memory.
+///
+/// # Examples
 ///
 /// ```
+/// use dary_heap::BinaryHeap;
+///
 /// let heap = BinaryHeap::from(vec![in alloc; 1, 2, 3]?);
 /// let items: Vec<i32> = heap.into_iter().collect(alloc)?;
 /// assert_eq!(rt; items.as_slice(), [3, 2, 1].as_slice());
 /// ```
+///
+/// # Time
+///
+/// No comparison.
 impl<T: Ord + Drop, const D: usize> IntoIterator for DaryHeap<T, D> {
     type Item = T;
 

@@ -10,9 +10,22 @@ use std::iter::FusedIterator;
 use std::marker::Model;
 use std::{fmt, slice};
 
-/// References to the items of a heap, in the order in which they are stored.
+/// An iterator over references to the items of a heap, in the order in which they are stored.
 ///
-/// A clause sees it as the list of the items that are left.
+/// [`DaryHeap::iter`] returns it. A clause sees it as the list of the items that are left.
+///
+/// # Examples
+///
+/// ```
+/// use dary_heap::TernaryHeap;
+///
+/// let heap = TernaryHeap::from(vec![in alloc; 1, 2, 3]?);
+/// let mut seen = Vec::new(alloc);
+/// for item in &heap {
+///     seen.push(*item)?;
+/// }
+/// assert_eq!(rt; seen.as_slice(), [3, 2, 1].as_slice());
+/// ```
 #[derive(Drop)]
 pub struct Iter<'a, T> {
     rest: slice::Iter<'a, T>,
@@ -28,15 +41,23 @@ impl<'a, T> Model for Iter<'a, T> {
 }
 
 impl<T: Ord, const D: usize> DaryHeap<T, D> {
-    /// The items in the order in which they are stored, by reference. It compares nothing.
+    /// Returns an iterator over references to the items, in the order in which they are stored.
+    ///
+    /// # Examples
     ///
     /// ```
+    /// use dary_heap::BinaryHeap;
+    ///
     /// let heap = BinaryHeap::from(vec![in alloc; 4, 3, 2, 1]?);
     /// let mut items = heap.iter();
     /// assert_eq!(rt; items.next(), Some(&4));
     /// assert_eq!(rt; items.next_back(), Some(&1));
     /// assert_eq!(rt; items.len(), 2);
     /// ```
+    ///
+    /// # Time
+    ///
+    /// No comparison.
     pub fn iter(&self) -> Iter<'_, T>
         ensures items { result ≡ self.now.items }
         ensures fits { length result < 2 ^ 64 }
@@ -84,7 +105,24 @@ impl<T> ExactSizeIterator for Iter<'_, T> {
 
 impl<T> FusedIterator for Iter<'_, T> {}
 
-/// Another iterator over what is left. It is never refused.
+/// Returns another iterator over what is left.
+///
+/// # Errors
+///
+/// None: it allocates no memory.
+///
+/// # Examples
+///
+/// ```
+/// use dary_heap::BinaryHeap;
+///
+/// let heap = BinaryHeap::from(vec![in alloc; 1, 2, 3]?);
+/// let mut items = heap.iter();
+/// assert_eq!(rt; items.next(), Some(&3));
+/// let mut rest = items.clone()?;
+/// assert_eq!(rt; rest.next(), Some(&2));
+/// assert_eq!(rt; items.next(), Some(&2));
+/// ```
 impl<T> Clone for Iter<'_, T> {
     ghost is_clone = { λ it copy. copy ≡ it };
 
@@ -97,7 +135,16 @@ impl<T> Clone for Iter<'_, T> {
     }
 }
 
-/// The iterator of no items.
+/// Returns an iterator over no items.
+///
+/// # Examples
+///
+/// ```
+/// use dary_heap::Iter;
+///
+/// let mut items: Iter<'_, i32> = Iter::default();
+/// assert_eq!(rt; items.next(), None);
+/// ```
 impl<T> Default for Iter<'_, T> {
     ghost is_default = { λ it. it ≡ [] };
 
@@ -114,7 +161,22 @@ impl<T: fmt::Debug> fmt::Debug for Iter<'_, T> {
     }
 }
 
-/// The items in the order in which they are stored, by reference, as [`DaryHeap::iter`].
+/// Returns an iterator over references to the items, as [`DaryHeap::iter`] does.
+///
+/// # Examples
+///
+/// ```
+/// use dary_heap::BinaryHeap;
+///
+/// let heap = BinaryHeap::from(vec![in alloc; 1, 2, 3]?);
+/// let mut even = 0;
+/// for item in &heap {
+///     if *item & 1 == 0 {
+///         even = *item;
+///     }
+/// }
+/// assert_eq!(rt; even, 2);
+/// ```
 impl<'a, T: Ord, const D: usize> IntoIterator for &'a DaryHeap<T, D> {
     type Item = &'a T;
 

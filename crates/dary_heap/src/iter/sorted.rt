@@ -13,9 +13,22 @@ use std::fmt;
 use std::iter::FusedIterator;
 use std::marker::Model;
 
-/// The items of a heap in descending order, each taken out by a pop.
+/// An iterator over the items of a heap in descending order. Each `next` is a pop.
 ///
-/// A clause sees it as the heap that it pops from.
+/// [`DaryHeap::into_iter_sorted`] returns it. A clause sees it as the heap that it pops from.
+///
+/// # Examples
+///
+/// ```
+/// use dary_heap::BinaryHeap;
+///
+/// let mut items = BinaryHeap::from(vec![in alloc; 2, 9, 4]?).into_iter_sorted();
+/// assert_eq!(rt; items.next(), Some(9));
+/// assert_eq!(rt; items.len(), 2);
+/// assert_eq!(rt; items.next(), Some(4));
+/// assert_eq!(rt; items.next(), Some(2));
+/// assert_eq!(rt; items.next(), None);
+/// ```
 #[derive(Drop)]
 pub struct IntoIterSorted<T: Ord, const D: usize> {
     heap: DaryHeap<T, D>,
@@ -30,16 +43,24 @@ impl<T: Ord, const D: usize> Model for IntoIterSorted<T, D> {
 }
 
 impl<T: Ord, const D: usize> DaryHeap<T, D> {
-    /// The items in descending order. Equal items come in the order in which pops give them.
+    /// Returns an iterator over the items in descending order. It allocates no memory.
     ///
-    /// Each item takes as many comparisons as its pop, and only when it is asked for. It takes no
-    /// memory.
+    /// Equal items come in the order in which pops return them.
+    ///
+    /// # Examples
     ///
     /// ```
+    /// use dary_heap::QuaternaryHeap;
+    ///
     /// let heap = QuaternaryHeap::from(vec![in alloc; 1, 2, 3, 4, 5]?);
     /// let greatest: Vec<i32> = heap.into_iter_sorted().take(2).collect(alloc)?;
     /// assert_eq!(rt; greatest.as_slice(), [5, 4].as_slice());
     /// ```
+    ///
+    /// # Time
+    ///
+    /// No comparison, and then at most as many as a [`pop`](DaryHeap::pop) for each item that is
+    /// asked for.
     pub fn into_iter_sorted(self) -> IntoIterSorted<T, D>
         ensures heap { result ≡ self }
         ensures ordered { IsHeapOrdered T.cmp D self.items }
@@ -56,10 +77,31 @@ impl<T: Ord, const D: usize> DaryHeap<T, D> {
 }
 
 impl<T: Ord, const D: usize> IntoIterSorted<T, D> {
-    /// An iterator over clones of what is left.
+    /// Returns an iterator over clones of what is left.
     ///
-    /// It asks that each item's clone gives the same value. It is refused only for want of memory, here
-    /// or in an item's `clone`. It builds after copying, as the heap's `clone`.
+    /// # Preconditions
+    ///
+    /// - Each item's clone has the same value as the item.
+    ///
+    /// # Errors
+    ///
+    /// Returns `AllocError` if memory allocation fails, here or in an item's `clone`.
+    ///
+    /// # Examples
+    ///
+    /// ```
+    /// use dary_heap::BinaryHeap;
+    ///
+    /// let mut items = BinaryHeap::from(vec![in alloc; 2, 9, 4]?).into_iter_sorted();
+    /// assert_eq!(rt; items.next(), Some(9));
+    /// let mut copy = items.clone()?;
+    /// assert_eq!(rt; copy.next(), Some(4));
+    /// assert_eq!(rt; items.len(), 2);
+    /// ```
+    ///
+    /// # Time
+    ///
+    /// As [`DaryHeap::clone`] of what is left.
     pub fn clone(&self) -> Result<Self, AllocError>
     where
         T: Clone + Drop,

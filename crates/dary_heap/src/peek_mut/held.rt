@@ -1,8 +1,9 @@
-//! What holds the items of a loan.
+//! What holds the items of a `PeekMut`.
 ghost use Rattle.std.specs.Prelude.{◌≡◌, ℕ, List, vec_capacity};
 
-/// The items that a loan holds. `Vec` is the one type that has it: what a `drop` leaves behind a
-/// reference can be said only where the other fields are of a type parameter.
+/// What holds the items of a [`PeekMut`](crate::peek_mut::PeekMut). `Vec` is the one type that
+/// implements it: what a `drop` leaves behind a reference can be said only if the other fields are
+/// of a type parameter.
 pub trait Held<T> {
     /// The items.
     ghost list: { Self → List T };
@@ -10,7 +11,7 @@ pub trait Held<T> {
     /// How many there is room for.
     ghost room: { Self → ℕ };
 
-    /// The vector.
+    /// Returns the vector.
     fn into_vec(self) -> Vec<T>
         ensures items { result.items ≡ list self }
         ensures capacity { vec_capacity result ≡ room self };

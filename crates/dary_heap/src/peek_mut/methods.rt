@@ -1,4 +1,4 @@
-//! How a loan begins, what may be done with it, and how it ends by a pop.
+//! How a `PeekMut` begins, what may be done with it, and how it ends by a pop.
 ghost use Rattle.std.specs.Prelude.{◌≡◌, ◌+◌, ◌-◌, ◌<◌, ◌↔◌, [], ◌∷◌, length, slice_index_or, false, Some, IsSome, IfSome, IsTrue};
 ghost use Rattle.std.specs.Bool.{OnFalse};
 ghost use Rattle.std.specs.Borrow.{sem, RestsIfNone};
@@ -17,12 +17,34 @@ use std::ops::{Deref, DerefMut};
 use std::{fmt, mem};
 
 impl<T: Ord, const D: usize> DaryHeap<T, D> {
-    /// The loan of a greatest item, or `None` exactly on an empty heap.
+    /// Returns a greatest item for reading, writing or taking out, or `None` if the heap is empty.
     ///
-    /// It is the item that `peek` shows, and no other item exceeds it. What may be done with it stands at
-    /// [`PeekMut`]. It compares nothing.
+    /// It is the item that [`peek`](DaryHeap::peek) returns. [`PeekMut`] says what may be done with
+    /// it.
+    ///
+    /// # Examples
+    ///
+    /// ```
+    /// use dary_heap::QuaternaryHeap;
+    ///
+    /// let mut heap = QuaternaryHeap::new(alloc);
+    /// assert!(rt; heap.peek_mut().is_none());
+    ///
+    /// heap.push(3)?;
+    /// heap.push(9)?;
+    /// heap.push(6)?;
+    /// if let Some(mut greatest) = heap.peek_mut() {
+    ///     assert_eq!(rt; *greatest, 9);
+    ///     *greatest = 5;
+    /// }
+    /// assert_eq!(rt; heap.peek(), Some(&6));
+    /// ```
+    ///
+    /// # Time
+    ///
+    /// No comparison. [`PeekMut`] says what its end takes.
     pub fn peek_mut(&mut self) -> Option<PeekMut<'_, T, D>>
-        // At `None` the heap stays as it is.
+        // If it returns `None` the heap stays as it is.
         ensures* unchanged { sem 𝓛 (RestsIfNone (heap_row T.row D.row T.Ord.own T.PartialEq T.PartialOrd.own) self.entry lender result (λ heap. heap ≡ self.old)) }
         ensures variant { IsSome result ↔ (0 < length self.old.items) }
         ensures loaned { IfSome result (λ loan. loaned loan ≡ self.old) }
@@ -49,12 +71,16 @@ impl<T: Ord, const D: usize> DaryHeap<T, D> {
 }
 
 impl<'a, T: Ord + Drop, const D: usize> PeekMut<'a, T, D> {
-    /// Takes the item on loan out of the heap, and ends the loan.
+    /// Removes the item from the heap and returns it.
     ///
-    /// It gives the value as it was last written, even where another item is strictly greater, and removes
-    /// that one only. It takes at most as many comparisons as a pop. The capacity stays.
+    /// The value is the one that was written last, even if another item is strictly greater. The
+    /// heap's capacity stays the same.
+    ///
+    /// # Examples
     ///
     /// ```
+    /// use dary_heap::{BinaryHeap, PeekMut};
+    ///
     /// let mut heap = BinaryHeap::from(vec![in alloc; 1, 5, 2]?);
     /// if let Some(mut greatest) = heap.peek_mut() {
     ///     *greatest = 0;
@@ -62,6 +88,10 @@ impl<'a, T: Ord + Drop, const D: usize> PeekMut<'a, T, D> {
     /// }
     /// assert_eq!(rt; heap.as_slice(), [2, 1].as_slice());
     /// ```
+    ///
+    /// # Time
+    ///
+    /// At most as many comparisons as a [`pop`](DaryHeap::pop) of the heap.
     pub fn pop(this: PeekMut<'a, T, D>) -> T
         ensures first { front (loaned this.entry).items ≡ Some result }
         ensures bag { IsSameBag (loaned this.entry).items (result ∷ this.exit.0.now.items) }
@@ -84,14 +114,17 @@ impl<'a, T: Ord + Drop, const D: usize> PeekMut<'a, T, D> {
         item
     }
 
-    /// Lets a written item go down to its place, and answers whether it went: exactly where another item
-    /// is strictly greater than it. Afterwards the loan is of the item that is now the first, which no
-    /// other exceeds, and counts as unwritten.
+    /// Lets a written item go down to its place, and returns `true` if another item was strictly
+    /// greater.
     ///
-    /// Where the loan is not written, or the item is the only one, it answers false and compares nothing.
-    /// Otherwise it takes at most as many comparisons as the drop of a written loan.
+    /// Afterwards the `PeekMut` is of the item that is now the first, which no other exceeds, and
+    /// counts as unwritten. If it returns `false` no item has moved.
+    ///
+    /// # Examples
     ///
     /// ```
+    /// use dary_heap::BinaryHeap;
+    ///
     /// let mut heap = BinaryHeap::from(vec![in alloc; 1, 2, 3]?);
     /// if let Some(mut greatest) = heap.peek_mut() {
     ///     *greatest = 0;
@@ -101,6 +134,10 @@ impl<'a, T: Ord + Drop, const D: usize> PeekMut<'a, T, D> {
     ///     assert!(rt; !greatest.refresh());
     /// }
     /// ```
+    ///
+    /// # Time
+    ///
+    /// As the drop of a [`PeekMut`]: no comparison if the item was not written, or is the only one.
     pub fn refresh(&mut self) -> bool
         ensures moved { IsTrue result ↔ IsExceeded T.cmp (loaned self.old).items }
         ensures bag { IsSameBag (loaned self.old).items (loaned self.new).items }
@@ -112,11 +149,11 @@ impl<'a, T: Ord + Drop, const D: usize> PeekMut<'a, T, D> {
         ensures capacity { (loaned self.new).capacity ≡ (loaned self.old).capacity }
         ensures same_reference { lender self.new ≡ lender self.old }
 
-        // From arity 2 on this says more where the last place is the first of its depth.
+        // From arity 2 on this says more if the last place is the first of its depth.
         ensures tight { RisesWithin (loaned self.old).comparisons (loaned self.new).comparisons (pop_bound D (length (loaned self.old).items) + 1) }
 
-        // Where it answers false no item moves. Where nothing was written, or one item is alone, nothing
-        // is compared either.
+        // If it returns false no item moves. If nothing was written, or one item is alone, nothing is
+        // compared either.
         ensures unmoved { OnFalse result ((loaned self.new).items ≡ (loaned self.old).items) }
         ensures unwritten { is_written self.old ≡ false → loaned self.new ≡ loaned self.old }
         ensures alone { length (loaned self.old).items ≡ 1 → loaned self.new ≡ loaned self.old }
@@ -131,7 +168,22 @@ impl<'a, T: Ord + Drop, const D: usize> PeekMut<'a, T, D> {
     }
 }
 
-/// The item on loan: the heap's first at the start, and then what was written last.
+/// Returns the item: the heap's first one at the start, and then what was written last.
+///
+/// # Examples
+///
+/// ```
+/// use dary_heap::BinaryHeap;
+///
+/// let mut heap = BinaryHeap::from(vec![in alloc; 1, 5, 2]?);
+/// if let Some(greatest) = heap.peek_mut() {
+///     assert_eq!(rt; *greatest, 5);
+/// }
+/// ```
+///
+/// # Time
+///
+/// No comparison.
 impl<T: Ord, const D: usize> Deref for PeekMut<'_, T, D> {
     type Target = T;
 
@@ -142,7 +194,24 @@ impl<T: Ord, const D: usize> Deref for PeekMut<'_, T, D> {
     }
 }
 
-/// The item on loan, to be written. From this call on the loan counts as written.
+/// Returns the item for writing. From this call on it counts as written.
+///
+/// # Examples
+///
+/// ```
+/// use dary_heap::BinaryHeap;
+/// use std::mem;
+///
+/// let mut heap = BinaryHeap::from(vec![in alloc; 1, 5, 2]?);
+/// if let Some(mut greatest) = heap.peek_mut() {
+///     assert_eq!(rt; mem::replace(&mut *greatest, 3), 5);
+/// }
+/// assert_eq!(rt; heap.as_slice(), [3, 1, 2].as_slice());
+/// ```
+///
+/// # Time
+///
+/// No comparison.
 impl<T: Ord, const D: usize> DerefMut for PeekMut<'_, T, D> {
     ghost use Rattle.std.specs.Borrow.{sem};
     ghost use Rattle.dary_heap.specs.Lending.{lends_first};
@@ -158,7 +227,18 @@ impl<T: Ord, const D: usize> DerefMut for PeekMut<'_, T, D> {
     }
 }
 
-/// The item on loan in a pair of parentheses, as `PeekMut(5)`.
+/// Writes the item in a pair of parentheses, as `PeekMut(5)`.
+///
+/// # Examples
+///
+/// ```
+/// use dary_heap::BinaryHeap;
+///
+/// let mut heap = BinaryHeap::from(vec![in alloc; 1, 5, 2]?);
+/// if let Some(greatest) = heap.peek_mut() {
+///     assert_eq!(rt; format!(in alloc; "{greatest:?}")?.as_str(), "PeekMut(5)");
+/// }
+/// ```
 impl<T: Ord + fmt::Debug, const D: usize> fmt::Debug for PeekMut<'_, T, D> {
     fn fmt<W: fmt::Write>(&self, f: &mut fmt::Formatter<W>) -> fmt::Result {
         f.debug_tuple("PeekMut").field(&self.items[0]).finish()

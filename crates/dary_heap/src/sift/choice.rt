@@ -74,7 +74,8 @@ fn greatest_of_four<T, J: Judge<T>>(hole: &Hole<T>, first: usize, judge: &mut J)
 }
 
 /// Returns the place of the last greatest of eight items.
-#[inline(always)]
+// With `inline(always)` the functions above would grow so large that the compiler drops theirs.
+#[inline]
 fn greatest_of_eight<T, J: Judge<T>>(hole: &Hole<T>, first: usize, judge: &mut J) -> usize
     requires { IsBelow hole.now first (first + 8) }
     ensures { Chooses J.order first (first + 8) result hole.now.items (J.count judge.old) (J.count judge.new) }

@@ -36,8 +36,20 @@ impl Count {
 
 /// What compares items: it has an order on them, and a count of the comparisons that it made.
 ///
-/// The order is one for the type, total and transitive. The count is each value's own. Only
-/// clauses read the two.
+/// The order is one for the type, total and transitive. The count is each value's own. Only clauses
+/// read the two. `crates/dary_heap_tests/src/judges.rt` has a judge of a caller's own.
+///
+/// # Examples
+///
+/// ```
+/// use dary_heap::sift::{Judge, Tally};
+///
+/// let mut judge = Tally::new();
+/// assert!(rt; judge.at_most(&1, &2));
+/// assert!(rt; judge.at_most(&2, &2));
+/// assert!(rt; !judge.at_most(&3, &2));
+/// assert_eq!(rt; judge.made(), 3);
+/// ```
 pub trait Judge<T> {
     /// The order by which it judges.
     ghost order: { T → T → Ordering };
@@ -45,7 +57,7 @@ pub trait Judge<T> {
     /// How many comparisons it made so far.
     ghost count: { Self → ℕ };
 
-    /// Answers whether `a` is at most `b` in the order. This is one comparison.
+    /// Returns `true` if `a` is at most `b` in the order. This is one comparison.
     fn at_most(&mut self, a: &T, b: &T) -> bool
         ensures answer { result ≡ is_le (order a.now b.now) }
         ensures counted { count self.new ≡ count self.old + 1 };
@@ -69,7 +81,17 @@ impl Model for ByOrd {
 }
 
 impl ByOrd {
-    /// A judge that made no comparison yet.
+    /// Returns a judge that made no comparison yet.
+    ///
+    /// # Examples
+    ///
+    /// ```
+    /// use dary_heap::sift::{ByOrd, build_with};
+    ///
+    /// let mut items = [2, 8, 5];
+    /// build_with::<_, _, 3>(&mut items, &mut ByOrd::new());
+    /// assert_eq!(rt; items, [8, 2, 5]);
+    /// ```
     pub fn new() -> ByOrd
         ensures { result ≡ 0 }
     {
@@ -110,7 +132,15 @@ impl Model for Tally {
 }
 
 impl Tally {
-    /// A judge that made no comparison yet.
+    /// Returns a judge that made no comparison yet.
+    ///
+    /// # Examples
+    ///
+    /// ```
+    /// use dary_heap::sift::Tally;
+    ///
+    /// assert_eq!(rt; Tally::new().made(), 0);
+    /// ```
     pub fn new() -> Tally
         ensures { result ≡ 0 }
     {
@@ -120,7 +150,17 @@ impl Tally {
         }
     }
 
-    /// How many comparisons it made so far. The answer stays at `u64::MAX` where there were more.
+    /// Returns the number of comparisons made so far, or `u64::MAX` if there were more.
+    ///
+    /// # Examples
+    ///
+    /// ```
+    /// use dary_heap::sift::{Tally, is_heap};
+    ///
+    /// let mut judge = Tally::new();
+    /// assert!(rt; is_heap::<_, _, 4>(&[9, 5, 7, 3], &mut judge));
+    /// assert_eq!(rt; judge.made(), 3);
+    /// ```
     pub fn made(&self) -> u64
         ensures { result ≡ min self.now u64.MAX }
     {

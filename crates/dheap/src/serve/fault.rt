@@ -32,7 +32,7 @@ impl Fault {
         }
     }
 
-    /// Says on `errors` what it was, where that can be written, and answers the status.
+    /// Writes to `errors` what it was, if that can be written, and returns the status.
     pub fn report<E: Write>(self, errors: &mut E) -> u8
         ensures { result ≡ status_of self }
     {

@@ -2,10 +2,10 @@ use Rattle.std.proofs.Common.{rules, ◌≡◌, ◌≤◌, ◌<◌, [], ◌∷�
 use Rattle.std.proofs.lemmas.Bool.{true≢false}
 use Rattle.std.proofs.lemmas.Option.{slice_get_within}
 use Rattle.dary_heap.specs.Bounds.{pop_bound}
-use Rattle.dary_heap.proofs.Bags.{has_none}
+use Rattle.dary_heap.proofs.Callers.{cmp_from_lt, cmp_from_not_lt, has_none, not_greater-less}
 use Rattle.dary_heap.proofs.Depth.{depth-later}
 use Rattle.dary_heap_uses.specs.Keeping.{KeepsGreatest, values}
-use Rattle.dary_heap_uses.proofs.Keeping.{on_ok_of, within_more, is_less, is_not_less, pushed, replaced, passed_by, none_kept, sunk_within}
+use Rattle.dary_heap_uses.proofs.Keeping.{on_ok_of, within_more, pushed, replaced, passed_by, none_kept, sunk_within}
 use Rattle.dary_heap_uses.proofs.greatest.offer.Goals as goal
 
 pub returns-then-len-k-clause-greatest : goal.returns-then-len-k-clause-greatest
@@ -27,7 +27,7 @@ returns-then-lt-clause-greatest g c = λ items h.
     let fact = replaced g.met.T.Ord.total c.args.k items c.args.item (record { 0 = c.args.item }) c.deref.result.now c.in-Some.least.items.items c.drop-least.new.self.0.items refl
     (subst (λ l. KeepsGreatest g.T.Ord.cmp c.args.k items (values l)) (sym same) h)
     full c.deref.ensures (c.in-Some.ensures.greatest.greatest c.deref.result.now c.deref.ensures)
-    (is_less g.met.T.Ord.total g.met.T.Ord.matches_partial_cmp c.deref.result.now.0 c.args.item (sym c.lt.ensures ∙ c.if-lt.true))
+    (not_greater-less g.T.Ord.cmp c.deref.result.now.0 c.args.item (cmp_from_lt g.met.T.Ord.matches_partial_cmp c.deref.result.now.0 c.args.item (sym c.lt.ensures ∙ c.if-lt.true)))
     c.drop-least.ensures.bag in
     search (rules, fact)
 
@@ -49,7 +49,7 @@ returns-else-lt-clause-greatest g c = λ items h.
     (passed_by g.met.T.Ord.total c.args.k items c.args.item c.deref.result.now c.in-Some.least.items.items
     (subst (λ l. KeepsGreatest g.T.Ord.cmp c.args.k items (values l)) (sym same) h)
     full (c.in-Some.ensures.greatest.greatest c.deref.result.now c.deref.ensures)
-    (is_not_less g.met.T.Ord.total g.met.T.Ord.matches_partial_cmp c.deref.result.now.0 c.args.item (sym c.lt.ensures ∙ c.if-lt.false))) in
+    (cmp_from_not_lt g.met.T.Ord.matches_partial_cmp c.deref.result.now.0 c.args.item g.met.T.Ord.total (sym c.lt.ensures ∙ c.if-lt.false))) in
     search (rules, fact)
 
 pub returns-in_default-clause-greatest : goal.returns-in_default-clause-greatest

@@ -1,6 +1,6 @@
 use Rattle.std.proofs.Common.{◌≡◌, ℕ, arith, get_or, length, refl, subst}
 use Rattle.std.proofs.lemmas.List.{take_more}
-use Rattle.dary_heap.proofs.Reversed.{came}
+use Rattle.dary_heap.proofs.Callers.{reversed_came}
 use Rattle.dary_heap.specs.Bounds.{RisesWithin}
 use Rattle.dary_heap_uses.specs.Simulation.{pushes_bound}
 use Rattle.dary_heap_uses.proofs.Running.{came_more, pushed_more}
@@ -21,7 +21,7 @@ loop-event-preserved c =
     let len = rw c.unwrap.ensures at c.push.ensures.len in
     let kept = c.push.ensures.kept (omega (arith, before.room)) in
     record {
-      came = came_more events _ _ _ index (get_or events index none) (take_more events index none c.loop-event-test.true) before.came (came _ c.loop-event.waiting.items _ _ refl bag);
+      came = came_more events _ _ _ index (get_or events index none) (take_more events index none c.loop-event-test.true) before.came (reversed_came _ c.loop-event.waiting.items _ _ refl bag);
       counted = pushed_more _ index before.many before.counted counted;
       many = omega (arith, before.many, len);
       room = omega (arith, before.room, len, kept);

@@ -1,7 +1,7 @@
 use Rattle.std.proofs.Common.{arith, ◌≤◌, All, ap, map, subst, sym}
 use Rattle.std.specs.declared.cmp.Reverse.{Reverse}
 use Rattle.dary_heap.specs.Contents.{Contents}
-use Rattle.dary_heap.proofs.Reversed.{all_came, came}
+use Rattle.dary_heap.proofs.Callers.{reversed_all_came, reversed_came}
 use Rattle.dary_heap_uses.specs.Simulation.{Agenda}
 use Rattle.dary_heap_uses.specs.declared.simulation.Event.{Event}
 use Rattle.dary_heap_uses.proofs.simulation.Simulation.schedule.Goals as goal
@@ -9,12 +9,12 @@ use Rattle.dary_heap_uses.proofs.simulation.Simulation.schedule.Goals.{in-Ok, in
 
 pub invariant_of-self : goal.invariant_of-self
 invariant_of-self c = elim c.match-push.branch [
-  | in-Ok w ↦ all_came (λ (e : Event). c.self.inside.moment ≤ e.moment) c.self.inside.waiting.items _ _ c.self.invariant (omega (arith, c.requires, ap (λ (a : Agenda). a.moment) c.self.view_is)) w.in-Ok.ensures.bag
+  | in-Ok w ↦ reversed_all_came (λ (e : Event). c.self.inside.moment ≤ e.moment) c.self.inside.waiting.items _ _ c.self.invariant (omega (arith, c.requires, ap (λ (a : Agenda). a.moment) c.self.view_is)) w.in-Ok.ensures.bag
   | in-Err w ↦ subst (λ (heap : Contents (Reverse Event)). All (λ (e : Event). c.self.inside.moment ≤ e.moment) (map (λ (r : Reverse Event). r.0) heap.items)) (sym w.in-Err.ensures.unchanged) c.self.invariant
 ]
 
 pub returns-clause-scheduled : goal.returns-clause-scheduled
 returns-clause-scheduled c = elim c.match-push.branch [
-  | in-Ok w ↦ rw w.result-is (came _ _ _ _ (ap (λ (a : Agenda). a.waiting) c.self.view_is) w.in-Ok.ensures.bag)
+  | in-Ok w ↦ rw w.result-is (reversed_came _ _ _ _ (ap (λ (a : Agenda). a.waiting) c.self.view_is) w.in-Ok.ensures.bag)
   | in-Err w ↦ rw w.result-is tt
 ]

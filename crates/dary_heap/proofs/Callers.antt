@@ -1,0 +1,323 @@
+-- The laws that proofs of callers need, found by `rt lemma`: what a list holds, bags, greatest items, pops in a row, heaps of `Reverse`, and comparisons.
+use Rattle.std.proofs.Common.{◌≡◌, ◌≢◌, ◌⊎◌, ℕ, ℤ, ◌+◌, ◌<◌, ◌≤◌, ◌≤ℤ◌, ◌<ℤ◌, min, Bool, true, false, if◌then◌else◌, List, [], ◌∷◌, ◌++◌, length, map, slice_set, All, Contains, Option, Some, None, Result, Ok, Err, Vec, IfOk, arith, refl, sym, ap, ◌∙◌, subst, inl, inr, length-append}
+use Rattle.std.specs.Cmp.{IsTotalOrder}
+use Rattle.std.specs.Iterator.{Yields}
+use Rattle.std.specs.Iterator.Adapters.{take_count, take_source, take_steps}
+use Rattle.std.specs.Ordering.{nat_cmp, int_cmp, is_lt, is_le, is_gt, is_ge, is_some_and, ordering_reverse, ordering_then}
+use Rattle.std.specs.declared.alloc.AllocError.{AllocError}
+use Rattle.std.specs.declared.alloc.Global.{Global}
+use Rattle.std.specs.declared.cmp.Ordering.{Ordering}
+use Rattle.std.specs.declared.cmp.Ordering.TheVariants.{Less, Equal, Greater}
+use Rattle.std.specs.declared.cmp.Reverse.{Reverse}
+use Rattle.std.specs.declared.iter.Take.{Take}
+use Rattle.std.proofs.lemmas.Bool.{cases_lt}
+use Rattle.std.proofs.lemmas.Cmp.{ranked, int_ranked, by_ranked}
+use Rattle.std.proofs.lemmas.Int.{ints}
+use Rattle.std.proofs.lemmas.Iterator.{IsCollectResult}
+use Rattle.std.proofs.lemmas.List.Elements.{All-cons, All-contains, All-contains_itself, All-map, All-tail, All-weaker, Contains-append_cases}
+use Rattle.std.proofs.lemmas.List.Sorted.{All-permutation, length_permutation, IsPermutation-refl, IsPermutation-sym, IsPermutation-trans, IsPermutation-cons, IsPermutation-middle, IsPermutation-map, IsPermutation-append_left, IsPermutation-append_right, IsPermutation-pop_more}
+use Rattle.dary_heap.specs.Bag.{IsSameBag, IsGreatest}
+use Rattle.dary_heap.specs.Contents.{Contents}
+use Rattle.dary_heap.specs.Popping.{IsPop, IsDescending, IsGivenDescending}
+use Rattle.dary_heap.specs.State.{front}
+use Rattle.dary_heap.proofs.Fronts.{alone}
+use Rattle.dary_heap.proofs.Order.{less, not_greater}
+use Rattle.dary_heap.proofs.Popping.{pops_give}
+pub use Rattle.dary_heap.proofs.Bags.{holds_none, has_none, came_first, came_later, came_cases}
+pub use Rattle.dary_heap.proofs.Callable.{takes_in_turn, all_callable}
+pub use Rattle.dary_heap.proofs.Cancelling.{IsPermutation-uncons}
+pub use Rattle.dary_heap.proofs.Lowering.{sum_falls}
+pub use Rattle.dary_heap.proofs.Order.{not_greater-self, not_greater-trans}
+pub use Rattle.dary_heap.proofs.Popping.{none_first, some_first, pops_list, pops_descend, pops_counted}
+pub use Rattle.dary_heap.proofs.States.{Contains-cases, Contains-first, Contains-later}
+
+-- ---- what a list holds
+
+pub Contains-map : {X Y : Type 0} (f : X → Y) (xs : List X) (x : X) → Contains xs x → Contains (map f xs) (f x)
+Contains-map f [] x h = absurd (holds_none x h)
+Contains-map {X} {Y} f (y ∷ ys) x h = elim (Contains-cases y ys x h) [
+  | inl is ↦ subst (λ (z : X). Contains (f y ∷ map f ys) (f z)) is (Contains-first (f y) (map f ys))
+  | inr later ↦ Contains-later (f y) (map f ys) (f x) (Contains-map f ys x later)
+]
+
+-- what holds of each item of a list holds of what it is mapped to
+pub All-mapped : {X Y : Type 0} (P : Y → Type 0) (f : X → Y) (xs : List X) → ((x : X) → Contains xs x → P (f x)) → All P (map f xs)
+All-mapped P f xs h = All-map P f xs (All-weaker (Contains xs) (λ x. P (f x)) h xs (All-contains_itself xs))
+
+-- a heap has a front, or no item
+pub front_cases : {X : Type 0} (xs : List X) → (xs ≡ []) ⊎ ((x : X) × (front xs ≡ Some x))
+front_cases [] = inl refl
+front_cases (x ∷ xs) = inr (x, refl)
+
+-- ---- bags
+
+-- a write of x through a loan, whose item was m: x came to the bag, and m went
+pub IsSameBag-written : {X : Type 0} (items new : List X) (m x : X) → front items ≡ Some m → IsSameBag (slice_set items 0 x) new → IsSameBag (x ∷ items) (m ∷ new)
+IsSameBag-written [] new m x first same = cc
+IsSameBag-written {X} (top ∷ rest) new m x first same =
+    let is : top ≡ m = cc in
+    subst (λ (v : X). IsSameBag (x ∷ top ∷ rest) (v ∷ new)) is (IsPermutation-trans _ _ _ (IsPermutation-middle (x ∷ []) top rest) (IsPermutation-cons top (x ∷ rest) new same))
+
+-- an item that was popped from one heap and pushed onto another
+pub IsSameBag-moved : {X : Type 0} (x : X) (from to left new : List X) → IsSameBag from (x ∷ left) → IsSameBag (x ∷ to) new → IsSameBag (from ++ to) (left ++ new)
+IsSameBag-moved x from to left new went came =
+    IsPermutation-trans _ _ _
+    (IsPermutation-append_left to from (x ∷ left) went)
+    (IsPermutation-trans _ _ _
+    (IsPermutation-sym (left ++ x ∷ to) (x ∷ (left ++ to)) (IsPermutation-middle left x to))
+    (IsPermutation-append_right left (x ∷ to) new came))
+
+-- ---- greatest items
+
+module _ {X : Type 0} {cmp : X → X → Ordering} where
+  -- an item that no greater one joins stays the greatest
+  pub IsGreatest-stays : (x m : X) (items : List X) → IsGreatest cmp items m → cmp x m ≢ Greater → IsGreatest cmp (x ∷ items) m
+  IsGreatest-stays x m items h under = record {
+    occurs = Contains-later x items m h.occurs;
+    none_above = λ y in'. elim (Contains-cases x items y in') [
+      | inl same ↦ subst (λ (v : X). cmp v m ≢ Greater) same under
+      | inr there ↦ h.none_above y there
+    ];
+  }
+
+  -- what a pop leaves exceeds nothing that it took
+  pub IsGreatest-left : (items rest : List X) (m : X) → IsGreatest cmp items m → IsSameBag items (m ∷ rest) → (y : X) → Contains rest y → cmp y m ≢ Greater
+  IsGreatest-left items rest m h bag y in' = h.none_above y (came_later m rest items y (IsPermutation-sym items (m ∷ rest) bag) in')
+
+  -- no item has a greater key than the greatest
+  pub IsGreatest-key : (key : X → ℕ) (by_key : (x y : X) → cmp x y ≢ Greater → key x ≤ key y) (items : List X) (m : X) → IsGreatest cmp items m → All (λ y. key y ≤ key m) items
+  IsGreatest-key key by_key items m h = All-weaker (Contains items) (λ (y : X). key y ≤ key m) (λ y there. by_key y m (h.none_above y there)) items (All-contains_itself items)
+
+  module _ (total : IsTotalOrder cmp) where
+    pub IsGreatest-alone : (x : X) → IsGreatest cmp (x ∷ []) x
+    IsGreatest-alone x = record {
+      occurs = Contains-first x [];
+      none_above = λ y in'. elim (Contains-cases x [] y in') [
+        | inl same ↦ subst (λ (v : X). cmp v x ≢ Greater) same (not_greater-self total x)
+        | inr none ↦ absurd (holds_none y none)
+      ];
+    }
+
+    -- an item that the greatest doesn't exceed is the greatest once it came
+    pub IsGreatest-overtaken : (x m : X) (items : List X) → IsGreatest cmp items m → cmp m x ≢ Greater → IsGreatest cmp (x ∷ items) x
+    IsGreatest-overtaken x m items h over = record {
+      occurs = Contains-first x items;
+      none_above = λ y in'. elim (Contains-cases x items y in') [
+        | inl same ↦ subst (λ (v : X). cmp v x ≢ Greater) same (not_greater-self total x)
+        | inr there ↦ not_greater-trans total y m x (h.none_above y there) over
+      ];
+    }
+
+-- ---- pops in a row
+
+IsDescending-push : {X : Type 0} (cmp : X → X → Ordering) (xs : List X) (m : X) → IsDescending cmp xs → ((x : X) → Contains xs x → cmp m x ≢ Greater) → IsDescending cmp (xs ++ m ∷ [])
+IsDescending-push cmp [] m h under = (λ y in'. absurd (holds_none y in'), tt)
+IsDescending-push {X} cmp (x ∷ xs) m h under = (
+  λ y in'. elim (Contains-append_cases xs (m ∷ []) y in') [
+    | inl old ↦ h.0 y old
+    | inr new ↦ subst (λ (v : X). cmp v x ≢ Greater) (alone m y new) (under x (Contains-first x xs))
+  ],
+  IsDescending-push cmp xs m h.1 (λ v there. under v (Contains-later x xs v there)),
+)
+
+module _ {X : Type 0} {cmp : X → X → Ordering} where
+  -- where a loop of pops begins
+  pub IsGivenDescending-none : (items : List X) → IsGivenDescending cmp items [] items
+  IsGivenDescending-none items = record { bag = IsPermutation-refl items; descending = tt; none_greater = λ x y in' there. absurd (holds_none x in') }
+
+  -- and its step, by the clauses `greatest` and `bag` of `pop`
+  pub IsGivenDescending-pop : (items given left rest : List X) (m : X) → IsGivenDescending cmp items given left → IsGreatest cmp left m → IsSameBag left (m ∷ rest) → IsGivenDescending cmp items (given ++ m ∷ []) rest
+  IsGivenDescending-pop items given left rest m h greatest bag = record {
+    bag = IsPermutation-pop_more items given left rest m h.bag bag;
+    descending = IsDescending-push cmp given m h.descending (λ x in'. h.none_greater x m in' greatest.occurs);
+    none_greater = λ x y in' there.
+        let before : Contains left y = came_later m rest left y (IsPermutation-sym left (m ∷ rest) bag) there in
+        elim (Contains-append_cases given (m ∷ []) x in') [
+          | inl old ↦ h.none_greater x y old before
+          | inr new ↦ subst (λ (v : X). cmp y v ≢ Greater) (alone m x new) (greatest.none_above y before)
+        ];
+  }
+
+-- what the first few calls give is what the same calls of the source give
+pub take_yields : {S A : Type 0} (steps : S → Option A → S → Type 0) (s : Take S) (xs : List A) (t : Take S) → Yields (take_steps steps) s xs t → Yields steps (take_source s) xs (take_source t) × (length xs + take_count t ≡ take_count s)
+take_yields steps s [] t run = (ap take_source run, omega (arith, ap take_count run))
+take_yields steps s (x ∷ xs) t run = let rest = take_yields steps run.0 xs t run.2 in ((take_source run.0, run.1.0, rest.0), omega (arith, rest.1, run.1.1))
+
+module _ {X : Type 0} (cmp : X → X → Ordering) (D : ℕ) where
+  -- after some pops nothing that is left exceeds anything that was taken
+  pub pops_given : (heap : Contents X) (xs : List X) (left : Contents X) → Yields (IsPop cmp D) heap xs left → IsGivenDescending cmp heap.items xs left.items
+  pops_given heap xs left run = (pops_give cmp D heap).part xs left run
+
+  first_pops : (heap : Contents X) (k : ℕ) (s t u : Take (Contents X)) (xs : List X) → take_source s ≡ heap → take_count s ≡ k → Yields (take_steps (IsPop cmp D)) s xs t → take_steps (IsPop cmp D) t None u → (left : List X) × IsGivenDescending cmp heap.items xs left × (length xs ≡ min k (length heap.items))
+  first_pops heap k s t u xs source count run ended =
+      let taken = take_yields (IsPop cmp D) s xs t run in
+      let left = take_source t in
+      let part = pops_given heap xs left (rw source at taken.0) in
+      let long : length xs + length left.items ≡ length heap.items = omega (arith, length_permutation _ _ part.bag, length-append xs left.items) in
+      let all : 0 < take_count t → length left.items ≡ 0 = λ more. ap length (none_first left.items (ended more).first) in
+      let as_many : length xs ≡ min k (length heap.items) = elim (cases_lt 0 (take_count t)) [ inl some ↦ omega (arith, all some, long, taken.1, count) | inr none ↦ omega (arith, none, long, taken.1, count) ] in
+      (left.items, part, as_many)
+
+  -- `into_iter_sorted().take(k).collect(alloc)` as k pops, or as many as there are items
+  pub take_pops : (heap : Contents X) (k : ℕ) (s : Take (Contents X)) (r : Result (Vec X Global) AllocError) → take_source s ≡ heap → take_count s ≡ k → IsCollectResult (take_steps (IsPop cmp D)) s r → IfOk r (λ v. (left : List X) × IsGivenDescending cmp heap.items v.items left × (length v.items ≡ min k (length heap.items)))
+  take_pops heap k s (Ok v) source count ran =
+      let run = ran.1 in
+      let ended = run.2 tt in
+      rw ran.2.0 (first_pops heap k s run.0 ended.0 ran.0 source count run.1 ended.1)
+  take_pops heap k s (Err e) source count ran = tt
+
+-- ---- a heap of `Reverse`, which gives the least first
+
+module _ {X : Type 0} (seen : List X) (old new : List (Reverse X)) (item : Reverse X) (view : map (λ (r : Reverse X). r.0) old ≡ seen) where
+  -- what came to the heap came to the bag of the items themselves
+  pub reversed_came : IsSameBag (item ∷ old) new → IsSameBag (item.0 ∷ seen) (map (λ (r : Reverse X). r.0) new)
+  reversed_came bag = subst (λ (xs : List X). IsSameBag (item.0 ∷ xs) (map (λ (r : Reverse X). r.0) new)) view (IsPermutation-map (λ (r : Reverse X). r.0) (item ∷ old) new bag)
+
+  -- what was taken out of it was taken out of that
+  pub reversed_went : IsSameBag old (item ∷ new) → IsSameBag seen (item.0 ∷ map (λ (r : Reverse X). r.0) new)
+  reversed_went bag = subst (λ (xs : List X). IsSameBag xs (item.0 ∷ map (λ (r : Reverse X). r.0) new)) view (IsPermutation-map (λ (r : Reverse X). r.0) old (item ∷ new) bag)
+
+module _ {X : Type 0} (P : X → Type 0) (old new : List (Reverse X)) (item : Reverse X) (all : All P (map (λ (r : Reverse X). r.0) old)) where
+  -- what holds of all that were in the bag and of what came holds of all
+  pub reversed_all_came : P item.0 → IsSameBag (item ∷ old) new → All P (map (λ (r : Reverse X). r.0) new)
+  reversed_all_came here bag = All-permutation P (map (λ (r : Reverse X). r.0) (item ∷ old)) (map (λ (r : Reverse X). r.0) new) (IsPermutation-map (λ (r : Reverse X). r.0) (item ∷ old) new bag) (All-cons P item.0 (map (λ (r : Reverse X). r.0) old) here all)
+
+  -- and it holds of all that are left
+  pub reversed_all_left : IsSameBag old (item ∷ new) → All P (map (λ (r : Reverse X). r.0) new)
+  reversed_all_left bag = All-tail P item.0 (map (λ (r : Reverse X). r.0) new) (All-permutation P (map (λ (r : Reverse X). r.0) old) (map (λ (r : Reverse X). r.0) (item ∷ new)) (IsPermutation-map (λ (r : Reverse X). r.0) old (item ∷ new) bag) all)
+
+-- a greatest of the reversed items is a least item: it is there, and exceeds none
+pub reversed_least : {X : Type 0} {cmp : X → X → Ordering} (items : List (Reverse X)) (item : Reverse X) → IsGreatest (λ x y. cmp y.0 x.0) items item → IsGreatest (λ x y. cmp y x) (map (λ (r : Reverse X). r.0) items) item.0
+reversed_least {X} {cmp} items item h = record {
+  occurs = Contains-map (λ (r : Reverse X). r.0) items item h.occurs;
+  none_above = λ x in'. All-contains (λ (v : X). cmp item.0 v ≢ Greater) (map (λ (r : Reverse X). r.0) items) x (All-mapped (λ (v : X). cmp item.0 v ≢ Greater) (λ (r : Reverse X). r.0) items (λ r there. h.none_above r there)) in';
+}
+
+module _ {X : Type 0} {cmp : X → X → Ordering} (key : X → ℕ) (by_key : (x y : X) → cmp x y ≢ Greater → key x ≤ key y) where
+  -- no item has a lesser key than a greatest of the reversed ones
+  pub reversed_least_key : (items : List (Reverse X)) (item : Reverse X) → IsGreatest (λ x y. cmp y.0 x.0) items item → All (λ other. key item.0 ≤ key other) (map (λ (r : Reverse X). r.0) items)
+  reversed_least_key items item h = All-mapped (λ other. key item.0 ≤ key other) (λ (r : Reverse X). r.0) items (λ x in'. by_key item.0 x.0 (h.none_above x in'))
+
+  -- where the front is a greatest of the reversed ones and its key is above a bound, so are all keys
+  pub reversed_all_above : (bound : ℕ) (items : List (Reverse X)) → ((item : Reverse X) → front items ≡ Some item → IsGreatest (λ x y. cmp y.0 x.0) items item) → ((item : Reverse X) → front items ≡ Some item → bound < key item.0) → All (λ other. bound < key other) (map (λ (r : Reverse X). r.0) items)
+  reversed_all_above bound items shown h = All-mapped (λ other. bound < key other) (λ (r : Reverse X). r.0) items (λ x in'. elim (front_cases items) [
+    | inl none ↦ absurd (holds_none x (subst (λ (xs : List (Reverse X)). Contains xs x) none in'))
+    | inr some ↦
+        (let greatest = shown some.0 some.1 in
+        let up = h some.0 some.1 in
+        let under = by_key some.0.0 x.0 (greatest.none_above x in') in
+        omega (arith, up, under))
+  ])
+
+-- ---- what a predicate answered, by the clauses `asked` and `empty` of `pop_if`. Gives is the predicate, as `FnOnceReturnsAt` has it
+
+module _ {X : Type 0} (Gives : X → Bool → Type 0) where
+  -- of the answer to one item
+  by_answer : (x item : X) (answer : Bool) → Gives x answer → Some item ≡ (if answer then Some x else None) → Gives item true
+  by_answer x item true h is = let same : x ≡ item = (cc) in subst (λ (y : X). Gives y true) same h
+  by_answer x item false h is = absurd (cc)
+
+  by_no_answer : (x : X) (answer : Bool) → Gives x answer → None ≡ (if answer then Some x else None) → Gives x false
+  by_no_answer x true h is = absurd (cc)
+  by_no_answer x false h is = h
+
+  -- where an item came out, the answer to it was yes
+  pub pop_if_yes : (items : List X) (item : X) → (items ≡ [] → Some item ≡ None) → ((x : X) → front items ≡ Some x → (answer : Bool) × Gives x answer × (Some item ≡ (if answer then Some x else None))) → Gives item true
+  pop_if_yes items item empty asked = elim (front_cases items) [
+    | inl none ↦ absurd (let e = empty none in cc)
+    | inr some ↦ (let a = asked some.0 some.1 in by_answer some.0 item a.0 a.1 a.2)
+  ]
+
+  -- and where none did, the answer to the front was no
+  pub pop_if_no : (items : List X) → ((x : X) → front items ≡ Some x → (answer : Bool) × Gives x answer × (None ≡ (if answer then Some x else None))) → (x : X) → front items ≡ Some x → Gives x false
+  pop_if_no items asked x first = let a = asked x first in by_no_answer x a.0 a.1 a.2
+
+-- ---- from a comparison in the code to `cmp`
+
+lt_yes : (r : Ordering) → is_lt r ≡ true → r ≡ Less
+lt_yes Less h = refl
+lt_yes Equal h = cc
+lt_yes Greater h = cc
+
+lt_no : (r : Ordering) → is_lt r ≡ false → ordering_reverse r ≢ Greater
+lt_no Less h e = cc
+lt_no Equal h e = cc
+lt_no Greater h e = cc
+
+gt_yes : (r : Ordering) → is_gt r ≡ true → ordering_reverse r ≡ Less
+gt_yes Less h = cc
+gt_yes Equal h = cc
+gt_yes Greater h = refl
+
+gt_no : (r : Ordering) → is_gt r ≡ false → r ≢ Greater
+gt_no Less h e = cc
+gt_no Equal h e = cc
+gt_no Greater h e = cc
+
+ge_yes : (r : Ordering) → is_ge r ≡ true → ordering_reverse r ≢ Greater
+ge_yes Less h e = cc
+ge_yes Equal h e = cc
+ge_yes Greater h e = cc
+
+ge_no : (r : Ordering) → is_ge r ≡ false → r ≡ Less
+ge_no Less h = refl
+ge_no Equal h = cc
+ge_no Greater h = cc
+
+-- what is strictly less is not strictly greater
+pub not_greater-less : {X : Type 0} (cmp : X → X → Ordering) (x y : X) → cmp x y ≡ Less → cmp x y ≢ Greater
+not_greater-less cmp x y h e = cc
+
+-- `agrees` is `g.met.T.Ord.matches_partial_cmp`, and the last premise the clause of `<` and what the test found, as `sym c.lt.ensures ∙ c.if-lt.true`
+module _ {X : Type 0} {cmp : X → X → Ordering} {partial : X → X → Option Ordering} (agrees : (x y : X) → partial x y ≡ Some (cmp x y)) (x y : X) where
+  tells : (test : Ordering → Bool) (answer : Bool) → is_some_and test (partial x y) ≡ answer → test (cmp x y) ≡ answer
+  tells test answer h = sym (ap (is_some_and test) (agrees x y)) ∙ h
+
+  pub cmp_from_lt : is_some_and is_lt (partial x y) ≡ true → cmp x y ≡ Less
+  cmp_from_lt h = lt_yes (cmp x y) (tells is_lt true h)
+
+  pub cmp_from_le : is_some_and is_le (partial x y) ≡ true → cmp x y ≢ Greater
+  cmp_from_le h = not_greater (cmp x y) (tells is_le true h)
+
+  pub cmp_from_not_gt : is_some_and is_gt (partial x y) ≡ false → cmp x y ≢ Greater
+  cmp_from_not_gt h = gt_no (cmp x y) (tells is_gt false h)
+
+  pub cmp_from_not_ge : is_some_and is_ge (partial x y) ≡ false → cmp x y ≡ Less
+  cmp_from_not_ge h = ge_no (cmp x y) (tells is_ge false h)
+
+  module _ (total : IsTotalOrder cmp) where
+    pub cmp_from_not_lt : is_some_and is_lt (partial x y) ≡ false → cmp y x ≢ Greater
+    cmp_from_not_lt h e = lt_no (cmp x y) (tells is_lt false h) (sym (total.antisymm y x) ∙ e)
+
+    pub cmp_from_not_le : is_some_and is_le (partial x y) ≡ false → cmp y x ≡ Less
+    cmp_from_not_le h = less total x y (tells is_le false h)
+
+    pub cmp_from_gt : is_some_and is_gt (partial x y) ≡ true → cmp y x ≡ Less
+    cmp_from_gt h = total.antisymm y x ∙ gt_yes (cmp x y) (tells is_gt true h)
+
+    pub cmp_from_ge : is_some_and is_ge (partial x y) ≡ true → cmp y x ≢ Greater
+    cmp_from_ge h e = ge_yes (cmp x y) (tells is_ge true h) (sym (total.antisymm y x) ∙ e)
+
+-- ---- from the order of numbers to theirs, and back
+
+pub nat_le_from_cmp : (a b : ℕ) → nat_cmp a b ≢ Greater → a ≤ b
+nat_le_from_cmp a b h = by_ranked (a < b) (a ≡ b) (b < a) (nat_cmp a b) (ranked a b (nat_cmp a b) refl) (λ is lower. omega arith) (λ is same. omega arith) (λ is greater. absurd (h is))
+
+pub nat_lt_from_cmp : (a b : ℕ) → nat_cmp a b ≡ Less → a < b
+nat_lt_from_cmp a b h = by_ranked (a < b) (a ≡ b) (b < a) (nat_cmp a b) (ranked a b (nat_cmp a b) refl) (λ is lower. lower) (λ is same. absurd (cc)) (λ is greater. absurd (cc))
+
+pub nat_cmp_from_le : (a b : ℕ) → a ≤ b → nat_cmp a b ≢ Greater
+nat_cmp_from_le a b h e = by_ranked (a < b) (a ≡ b) (b < a) (nat_cmp a b) (ranked a b (nat_cmp a b) refl) (λ is lower. cc) (λ is same. cc) (λ is greater. omega arith)
+
+pub int_le_from_cmp : (a b : ℤ) → int_cmp a b ≢ Greater → a ≤ℤ b
+int_le_from_cmp a b h = by_ranked (a <ℤ b) (a ≡ b) (b <ℤ a) (int_cmp a b) (int_ranked a b (int_cmp a b) refl) (λ is lower. omega (arith, ints)) (λ is same. subst (λ (v : ℤ). a ≤ℤ v) same (omega (arith, ints))) (λ is greater. absurd (h is))
+
+pub int_lt_from_cmp : (a b : ℤ) → int_cmp a b ≡ Less → a <ℤ b
+int_lt_from_cmp a b h = by_ranked (a <ℤ b) (a ≡ b) (b <ℤ a) (int_cmp a b) (int_ranked a b (int_cmp a b) refl) (λ is lower. lower) (λ is same. absurd (cc)) (λ is greater. absurd (cc))
+
+pub int_cmp_from_le : (a b : ℤ) → a ≤ℤ b → int_cmp a b ≢ Greater
+int_cmp_from_le a b h e = by_ranked (a <ℤ b) (a ≡ b) (b <ℤ a) (int_cmp a b) (int_ranked a b (int_cmp a b) refl) (λ is lower. cc) (λ is same. cc) (λ is greater. omega (arith, ints))
+
+-- numbers that are compared first, and whatever else where they are equal, as a derived `Ord` compares them
+pub nat_le_from_first : (a b : ℕ) (rest : Ordering) → ordering_then (nat_cmp a b) rest ≢ Greater → a ≤ b
+nat_le_from_first a b rest h = nat_le_from_cmp a b (λ is. h (ap (λ (o : Ordering). ordering_then o rest) is))

@@ -1,7 +1,0 @@
-use Rattle.std.proofs.Common.{take}
-use Rattle.dary_heap_tests.specs.Routes.{IsMap}
-use Rattle.dary_heap_tests.proofs.roads.edges_of.Given as goal
-
--- the edges are those of the roads so far
-abbrev pub invariant-loop-road : goal.invariant-loop-road
-invariant-loop-road l = IsMap l.places (take l.road-index l.roads) l.edges.items

@@ -1,0 +1,5 @@
+use Rattle.dary_heap.proofs.Lowering.{sum_falls}
+use Rattle.dary_heap_uses.proofs.calling.lower.Goals as goal
+
+pub loop-greatest-smaller : goal.loop-greatest-smaller
+loop-greatest-smaller c = search sum_falls

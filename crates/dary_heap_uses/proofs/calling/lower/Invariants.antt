@@ -1,0 +1,14 @@
+use Rattle.std.proofs.Common.{◌≡◌, false, length}
+use Rattle.std.specs.List.{sum_by}
+use Rattle.dary_heap.specs.PeekMut.{loaned, is_written, lender}
+use Rattle.dary_heap_uses.proofs.calling.lower.Given as goal
+
+abbrev pub invariant-loop-greatest : goal.invariant-loop-greatest
+invariant-loop-greatest l =
+    (lender l.greatest ≡ lender l.initial.greatest)
+    × (is_written l.greatest ≡ false)
+    × (length (loaned l.greatest).items ≡ length l.fn.heap.items)
+
+-- a write lowers the sum of the numbers
+abbrev pub decreases-loop-greatest : goal.decreases-loop-greatest
+decreases-loop-greatest l = sum_by (λ x. x) (loaned l.greatest).items

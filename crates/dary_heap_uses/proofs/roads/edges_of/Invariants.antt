@@ -1,0 +1,7 @@
+use Rattle.std.proofs.Common.{take}
+use Rattle.dary_heap_uses.specs.Routes.{IsMap}
+use Rattle.dary_heap_uses.proofs.roads.edges_of.Given as goal
+
+-- the edges are those of the roads so far
+abbrev pub invariant-loop-road : goal.invariant-loop-road
+invariant-loop-road l = IsMap l.places (take l.road-index l.roads) l.edges.items
