@@ -20,7 +20,7 @@ pub fn left_out() -> Option<&'static str> {
 
 /// Items on which the heaps of C++ have workloads.
 pub trait InCpp: Item {
-    /// Makes the call on the task's items, and returns how many marks it wrote. None if it is refused.
+    /// Makes the call on the task's items, and returns how many marks it wrote. None if memory allocation fails.
     fn run(
         heap: Heap,
         call: Call,

@@ -14,7 +14,7 @@ const SEARCHES: usize = 2;
 /// What an edge costs at most.
 const COST: usize = 1000;
 
-/// How many inputs a line goes through by turns: where they are small several, so that none is met
+/// How many inputs a line goes through by turns: several if they are small, so that none is met
 /// again at once.
 fn inputs(items: usize) -> usize {
     (64_000 / items).clamp(1, 64)

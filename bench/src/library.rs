@@ -275,7 +275,7 @@ fn of_items<T: Item>(
     let items = &task.items;
     let place = out.as_mut_ptr().cast();
     // SAFETY: the function reads the items and writes below the length of `out`, and keeps neither.
-    // The items are heap ordered at the arity where the workload says so.
+    // The items are heap ordered at the arity if the workload says so.
     granted(unsafe { function(arity, items.as_ptr(), items.len(), place, out.len()) })
 }
 

@@ -8,6 +8,7 @@ mod inputs;
 mod items;
 mod library;
 mod measure;
+mod memory;
 mod queue;
 mod random;
 mod rivals;
@@ -27,6 +28,7 @@ fn main() -> ExitCode {
         eprintln!("{}", arguments::USAGE);
         return ExitCode::from(2);
     };
+    memory::keep_freed();
     let mut bench = Bench { wanted, faults: 0 };
     bench.all();
     match bench.faults {

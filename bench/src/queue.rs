@@ -9,7 +9,7 @@ pub trait Queue<T>: Sized {
     fn empty() -> Self;
     /// The heap of the items in any order.
     fn of(items: Vec<T>) -> Self;
-    /// The heap of items that are heap ordered at its arity, as they are where it has such a call.
+    /// The heap of items that are heap ordered at its arity, as they are if it has such a call.
     fn of_ordered(items: Vec<T>) -> Self;
     fn push(&mut self, item: T);
     fn pop(&mut self) -> Option<T>;

@@ -67,7 +67,7 @@ pub struct Rival<I: Input> {
     pub agreement: Agreement,
 }
 
-/// A run returns how much it wrote, a count how many comparisons it made; none if the input is refused.
+/// A run returns how much it wrote, a count how many comparisons it made; none if memory allocation fails.
 type Run<I> = Box<dyn Fn(&I, &mut [<I as Input>::Output]) -> Option<u64>>;
 type Count<I> = Box<dyn Fn(&I) -> Option<u64>>;
 

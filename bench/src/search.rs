@@ -42,8 +42,8 @@ impl<const COUNTED: bool> PartialOrd for State<COUNTED> {
     }
 }
 
-/// Makes the searches of the graph, and writes each cost, or `u64::MAX` where no walk leads there.
-/// Answers how many.
+/// Makes the searches of the graph, and writes each cost, or `u64::MAX` if no walk leads there.
+/// Returns how many.
 pub fn searches<const COUNTED: bool, Q: Queue<State<COUNTED>>>(
     graph: &Graph,
     out: &mut [u64],

@@ -198,7 +198,7 @@ module _ {X : Type 0} {cmp : X → X → Ordering} (key : X → ℕ) (by_key : (
   pub reversed_least_key : (items : List (Reverse X)) (item : Reverse X) → IsGreatest (λ x y. cmp y.0 x.0) items item → All (λ other. key item.0 ≤ key other) (map (λ (r : Reverse X). r.0) items)
   reversed_least_key items item h = All-mapped (λ other. key item.0 ≤ key other) (λ (r : Reverse X). r.0) items (λ x in'. by_key item.0 x.0 (h.none_above x in'))
 
-  -- where the front is a greatest of the reversed ones and its key is above a bound, so are all keys
+  -- if the front is a greatest of the reversed ones and its key is above a bound, so are all keys
   pub reversed_all_above : (bound : ℕ) (items : List (Reverse X)) → ((item : Reverse X) → front items ≡ Some item → IsGreatest (λ x y. cmp y.0 x.0) items item) → ((item : Reverse X) → front items ≡ Some item → bound < key item.0) → All (λ other. bound < key other) (map (λ (r : Reverse X). r.0) items)
   reversed_all_above bound items shown h = All-mapped (λ other. bound < key other) (λ (r : Reverse X). r.0) items (λ x in'. elim (front_cases items) [
     | inl none ↦ absurd (holds_none x (subst (λ (xs : List (Reverse X)). Contains xs x) none in'))
@@ -221,14 +221,14 @@ module _ {X : Type 0} (Gives : X → Bool → Type 0) where
   by_no_answer x true h is = absurd (cc)
   by_no_answer x false h is = h
 
-  -- where an item came out, the answer to it was yes
+  -- if an item came out, the predicate returned yes for it
   pub pop_if_yes : (items : List X) (item : X) → (items ≡ [] → Some item ≡ None) → ((x : X) → front items ≡ Some x → (answer : Bool) × Gives x answer × (Some item ≡ (if answer then Some x else None))) → Gives item true
   pop_if_yes items item empty asked = elim (front_cases items) [
     | inl none ↦ absurd (let e = empty none in cc)
     | inr some ↦ (let a = asked some.0 some.1 in by_answer some.0 item a.0 a.1 a.2)
   ]
 
-  -- and where none did, the answer to the front was no
+  -- and if none did, it returned no for the front
   pub pop_if_no : (items : List X) → ((x : X) → front items ≡ Some x → (answer : Bool) × Gives x answer × (None ≡ (if answer then Some x else None))) → (x : X) → front items ≡ Some x → Gives x false
   pop_if_no items asked x first = let a = asked x first in by_no_answer x a.0 a.1 a.2
 
@@ -318,6 +318,6 @@ int_lt_from_cmp a b h = by_ranked (a <ℤ b) (a ≡ b) (b <ℤ a) (int_cmp a b) 
 pub int_cmp_from_le : (a b : ℤ) → a ≤ℤ b → int_cmp a b ≢ Greater
 int_cmp_from_le a b h e = by_ranked (a <ℤ b) (a ≡ b) (b <ℤ a) (int_cmp a b) (int_ranked a b (int_cmp a b) refl) (λ is lower. cc) (λ is same. cc) (λ is greater. omega (arith, ints))
 
--- numbers that are compared first, and whatever else where they are equal, as a derived `Ord` compares them
+-- numbers that are compared first, and whatever else if they are equal, as a derived `Ord` compares them
 pub nat_le_from_first : (a b : ℕ) (rest : Ordering) → ordering_then (nat_cmp a b) rest ≢ Greater → a ≤ b
 nat_le_from_first a b rest h = nat_le_from_cmp a b (λ is. h (ap (λ (o : Ordering). ordering_then o rest) is))

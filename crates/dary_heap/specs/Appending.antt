@@ -1,4 +1,4 @@
--- Which of two heaps receives the items of the other in an append: the longer, the first where they are as long.
+-- Which of two heaps receives the items of the other in an append: the longer, or the first if they are as long.
 use Rattle.std.specs.Prelude.{ℕ, length, nat_lt, if◌then◌else◌}
 use Rattle.dary_heap.specs.Contents.{Contents}
 

@@ -1,11 +1,11 @@
--- What the caller of a run owes: its predicates may be called on the items that come up in it.
+-- The precondition of a run: its predicates may be called on the items that come up in it.
 use Rattle.std.specs.Prelude.{Bool, List, [], ◌∷◌, ◌++◌, Contains}
 use Rattle.std.specs.Fn.{Mut, TakesAt, CalledAt}
 use denote.Ref.{Bor}
 use Rattle.dary_heap.specs.Machine.{Act, Write, Refresh, Command, Push, PopIf, Ask, Retain, Extend, Append, Loan}
 
 module _ {T P : Type 0} (calls : Mut P (Bor T × Unit {0}) Bool) where
-  -- p may be called on each of these items in turn, whatever it answers
+  -- p may be called on each of these items in turn, whatever it returns
   abbrev pub TakesInTurn : P → List T → Type 0
   TakesInTurn p [] = Unit {0}
   TakesInTurn p (x ∷ xs) = TakesAt calls p x × ((answer : Bool) (after : P) → CalledAt calls p x answer after → TakesInTurn after xs)

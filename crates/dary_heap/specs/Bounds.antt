@@ -16,7 +16,7 @@ push_bound D n = depth D n
 abbrev pub sink_bound : ℕ → ℕ → ℕ
 sink_bound D n = arity D * depth D (n - 1)
 
--- a pop from n items: the arity times the depth of the last place that remains, and 0 where none remains
+-- a pop from n items: the arity times the depth of the last place that remains, and 0 if none remains
 abbrev pub pop_bound : ℕ → ℕ → ℕ
 pop_bound D n = arity D * depth D (n - 2)
 
@@ -50,7 +50,7 @@ charge D n (DrainSorted k) (Taken taken) m = pops_bound D n
 charge D n (Loan acts end) (Loaned told) m = (refreshes acts + 1) * sink_bound D n
 charge D n command reply m = 0
 
--- the sum of the charges of a run's steps, from the state old on, where these are the states that they leave
+-- the sum of the charges of a run's steps, from the state old on, if these are the states that they leave
 abbrev pub charges : {T P : Type 0} → ℕ → List T → List (Command T P) → List (Reply T) → List (List T) → ℕ
 charges D old (command ∷ commands) (reply ∷ replies) (new ∷ later) = charge D (length old) command reply (length new) + charges D new commands replies later
 charges D old commands replies states = 0

@@ -15,14 +15,14 @@ pub record IsRefusedAfter {S A : Type 0} (steps : S → Option A → S → Type 
   pub gave : Yields steps from (xs ++ refused ∷ []) left
   pub full : capacity ≤ len + length xs
 
--- an iterator gave xs, and then none where it ended; otherwise it may go on
+-- an iterator gave xs, and then none if it ended; otherwise it may go on
 abbrev pub IsPoured : {S A : Type 0} → (S → Type 0) → (S → Count) → (S → Option A → S → Type 0) → S → List A → Bool → S → Type 0
 IsPoured can left steps from xs ended to = MatchBool ended (YieldsThen steps from xs None to) (Yields steps from xs to × can to × IsFinite (left to) × (length xs + size (left to) ≤ size (left from)))
 
 -- new has the items of old and xs
 pub record IsExtended {T : Type 0} (cmp : T → T → Ordering) (D : ℕ) (old : Contents T) (xs : List T) (new : Contents T) : Type 0 where
   pub bag : IsSameBag (old.items ++ xs) new.items
-  -- where none came in they stay as they were
+  -- if none came in, they stay as they were
   pub unchanged : xs ≡ [] → new.items ≡ old.items
   pub ordered : IsHeapOrdered cmp D new.items
   pub counted : RisesWithin old.comparisons new.comparisons (mend_bound D (length new.items) (length new.items - length old.items))

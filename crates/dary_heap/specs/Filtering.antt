@@ -19,7 +19,7 @@ pub record IsRetained {T F : Type 0} (calls : F → T → Bool → F → Type 0)
   pub all : length answers ≡ length old.items
   pub asked : ReturnsInTurn calls f answers old.items after
   pub bag : IsSameBag (items_where_true answers old.items) new.items
-  -- where each answer was yes nothing changed
+  -- if each answer was yes, nothing changed
   pub unchanged : first_no answers ≡ length answers → new ≡ old
   -- otherwise the items from the first removed place on were mended
   pub counted : RisesWithin old.comparisons new.comparisons (mend_bound D (length new.items) (length new.items - first_no answers))

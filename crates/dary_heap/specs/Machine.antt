@@ -49,7 +49,7 @@ pub data Reply (T : Type 0) : Type 0 where
   Taken : List T → Reply T
   Loaned : Option (List (Seen T) × Option T) → Reply T
 
--- `answers p x a q`: the predicate p, asked about x, may answer a and be q from then on
+-- `answers p x a q`: the predicate p, called on x, may return a and be q from then on
 module _ {T P : Type 0} (cmp : T → T → Ordering) (answers : P → T → Bool → P → Type 0) where
   -- p, asked once about the front, may give this answer
   abbrev pub MayAnswer : List T → P → Bool → Type 0
@@ -76,7 +76,7 @@ module _ {T P : Type 0} (cmp : T → T → Ordering) (answers : P → T → Bool
   Acts held rest (Refresh ∷ acts) (Changed false ∷ seen) last left = (HasGreater cmp rest held → ⊥) × Acts held rest acts seen last left
   Acts held rest acts seen last left = ⊥
 
-  -- how a loan ends that holds last: what is popped, and the state after it. A value that is put back is its front where none of the rest is strictly greater, and else any
+  -- how a loan ends that holds last: what is popped, and the state after it. A value that is put back is its front if none of the rest is strictly greater, and else any
   abbrev pub Ends : T → List T → End → Option T → List T → Type 0
   Ends last left PutBack None new = IsSameBag (last ∷ left) new × IsState cmp new × ((HasGreater cmp left last → ⊥) → front new ≡ Some last)
   Ends last left TakeOut (Some v) new = (v ≡ last) × IsSameBag left new × IsState cmp new
@@ -101,7 +101,7 @@ module _ {T P : Type 0} (cmp : T → T → Ordering) (answers : P → T → Bool
   Step old (Extend xs) ExtendRefused new = (taken : List T) × (left : List T) × (xs ≡ taken ++ left) × (0 < length left) × IsJoined cmp old taken new
   Step old (Append other) Done new = IsJoined cmp old other new
   Step old (Append other) (AppendRefused back) new = IsSameState other back × IsSameState old new
-  -- the predicate is asked about the items of some listing that begins with the front, in its order, once each and about nothing else. Where it removes none the front stays
+  -- the predicate is asked about the items of some listing that begins with the front, in its order, once each and about nothing else. If it removes none, the front stays
   Step old (Retain p) Done new =
       (listing : List T) × (kept : List T)
       × IsSameState old listing × IsFiltered answers p listing kept × IsSameBag kept new × IsState cmp new × (kept ≡ listing → front new ≡ front old)
@@ -124,7 +124,7 @@ module _ {T P : Type 0} (cmp : T → T → Ordering) (answers : P → T → Bool
   Run old (command ∷ commands) (reply ∷ replies) (new ∷ later) = Step old command reply new × Run new commands replies later
   Run old commands replies states = ⊥
 
--- the state at the end of a run: the last that was left, or the one at its start where there is none
+-- the state at the end of a run: the last that was left, or the one at its start if there is none
 abbrev pub last_state : {T : Type 0} → List T → List (List T) → List T
 last_state old [] = old
 last_state old (new ∷ later) = last_state new later

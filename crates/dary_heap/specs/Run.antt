@@ -12,7 +12,7 @@ use Rattle.dary_heap.specs.State.{IsState}
 abbrev pub room : {T : Type 0} → Contents T → ℕ
 room heap = heap.capacity - length heap.items
 
--- where so many pushes are sure, a push replies `Pushed` if there is one
+-- if so many pushes are sure, a push replies `Pushed` as long as there is one
 abbrev pub IsServed : {T P : Type 0} → ℕ → Command T P → Reply T → Type 0
 IsServed sure (Push x) reply = 0 < sure → reply ≡ Pushed
 IsServed sure command reply = Unit {0}
@@ -50,7 +50,7 @@ module _ {T P : Type 0} (cmp : T → T → Ordering) (answers : P → T → Bool
     pub ends : last_state old.items states ≡ new.items
     -- it made no more comparisons than the charges of the steps, taken over the same states
     pub charged : RisesWithin old.comparisons new.comparisons (charges D old.items commands replies states)
-    -- no push that there is room for is refused
+    -- no push that there is room for fails
     pub served : PushesServed (room old) commands replies
     -- for as many as are sure afterwards there is room
     pub sure : sure_at_end (room old) commands replies ≤ room new

@@ -1,4 +1,4 @@
--- The states of a search, and what the examining of edges makes of the costs found so far and of the states that wait. A cost found is the limit where no walk was found. Only private functions speak of these, but for the order of states.
+-- The states of a search, and what the examining of edges makes of the costs found so far and of the states that wait. A cost found is the limit if no walk was found. Only private functions speak of these, but for the order of states.
 use Rattle.std.specs.Prelude.{◌≡◌, ◌⊎◌, ℕ, ◌+◌, ◌<◌, ◌≤◌, nat_eq, ◌&&◌, Bool, List, length, slice_index_or, sum, Contains}
 use Rattle.std.specs.List.{IsDistinct}
 use Rattle.std.specs.Ordering.{nat_cmp, on, flip_args, then_cmp}
@@ -42,7 +42,7 @@ pub record Relaxes (limit cost : ℕ) (edges : List Edge) (found : List ℕ) (wa
   pub same : length lower ≡ length found
   -- no cost found rises
   pub falls : (v : ℕ) → slice_index_or lower v limit ≤ slice_index_or found v limit
-  -- no sum reached the limit, and no edge ends where something dearer was found
+  -- no sum reached the limit, and no edge ends at a node with a greater cost found
   pub sums : (e : Edge) → Contains edges e → cost + e.cost < limit
   pub ends : (e : Edge) → Contains edges e → slice_index_or lower e.node limit ≤ cost + e.cost
   -- no state is lost, and each new one came over one of the edges
@@ -51,7 +51,7 @@ pub record Relaxes (limit cost : ℕ) (edges : List Edge) (found : List ℕ) (wa
   -- a new state is cheaper than what was found for its node, and so none waits twice
   pub cheaper : (s : State) → Contains grown s → Contains waiting s ⊎ (s.cost < slice_index_or found s.position limit)
   pub apart : AreApart limit found waiting → AreApart limit lower grown
-  -- where a cost fell, a state with it waits
+  -- if a cost fell, a state with it waits
   pub changes : (v : ℕ) → (slice_index_or lower v limit ≡ slice_index_or found v limit) ⊎ Contains grown (state (slice_index_or lower v limit) v)
   -- as many states as came, so far at least did the costs fall
   pub spent : sum lower + length grown ≤ sum found + length waiting

@@ -1,4 +1,4 @@
--- States. A state is a bag with its front. It is read from a list: the bag is that of the list, and the front is the first item, none exactly where there is no item.
+-- States. A state is a bag with its front. It is read from a list: the bag is that of the list, and the front is the first item, none exactly if there is no item.
 -- So a slice is read as a state, and of the order behind its first item nothing is read.
 use Rattle.std.specs.Prelude.{◌≡◌, List, [], ◌++◌, slice_get, Option, Some, None, if◌then◌else◌}
 use Rattle.std.specs.Ordering.{is_gt}
@@ -17,13 +17,13 @@ pub record IsSameState {T : Type 0} (old new : List T) : Type 0 where
   pub bag : IsSameBag old new
   pub first : front new ≡ front old
 
--- the bag of old with these items more. Its front is any, and that of old where there are no such items
+-- the bag of old with these items more. Its front is any, and that of old if there are no such items
 pub record IsJoined {T : Type 0} (cmp : T → T → Ordering) (old items new : List T) : Type 0 where
   pub bag : IsSameBag (old ++ items) new
   pub state : IsState cmp new
   pub first : items ≡ [] → front new ≡ front old
 
--- the front once x came to a bag with this front: x where there was none or x is strictly greater, else the one that was
+-- the front once x was added to a bag with this front: x if there was none or x is strictly greater, else the one that was
 abbrev pub front_with : {T : Type 0} → (T → T → Ordering) → T → Option T → T
 front_with cmp x None = x
 front_with cmp x (Some f) = if is_gt (cmp x f) then x else f

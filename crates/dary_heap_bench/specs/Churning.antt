@@ -1,4 +1,4 @@
--- What comes out where after each item that goes in a greatest is taken out.
+-- What comes out if after each item that goes in a greatest is taken out.
 use Rattle.std.specs.Prelude.{◌≡◌, List, [], ◌∷◌}
 use Rattle.std.specs.declared.cmp.Ordering.{Ordering}
 use Rattle.dary_heap.specs.Bag.{IsSameBag, IsGreatest}

@@ -26,7 +26,7 @@ pub record IsListed (offsets targets costs : List ℕ) (graph : Graph) : Type 0 
   pub targets_are : (u : ℕ) (row : Vec Edge Global) → slice_get graph u ≡ Some row → map (λ edge. edge.node) row.items ≡ of_node offsets u targets
   pub costs_are : (u : ℕ) (row : Vec Edge Global) → slice_get graph u ≡ Some row → map (λ edge. edge.cost) row.items ≡ of_node offsets u costs
 
--- the answer is the least cost of a walk from u to v, and the greatest number exactly where no walk leads there
+-- the answer is the least cost of a walk from u to v, and the greatest number exactly if no walk leads there
 pub record IsCheapest (graph : Graph) (u v answer : ℕ) : Type 0 where
   pub least : answer ≢ 2 ^ 64 - 1 → IsLeastCost graph u v answer
   pub unreached : answer ≡ 2 ^ 64 - 1 → IsUnreached graph u v

@@ -1,4 +1,4 @@
--- What a call makes of the slice that it writes to, and what it answers.
+-- What a call makes of the slice that it writes to, and what it returns.
 use Rattle.std.specs.Prelude.{◌≡◌, ◌≢◌, ℕ, ◌≤◌, ◌^◌, ◌-◌, List, length, take, drop}
 
 -- these numbers stand at the front of the slice, and behind them nothing changed

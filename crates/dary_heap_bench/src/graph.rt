@@ -60,7 +60,7 @@ fn search(
     Ok(write(&found, out))
 }
 
-/// The least cost of a walk, and `u64::MAX` where no walk leads to the goal.
+/// The least cost of a walk, and `u64::MAX` if no walk leads to the goal.
 fn cheapest(
     alloc: Global,
     edges: &Vec<Vec<Edge>>,
@@ -72,7 +72,7 @@ fn cheapest(
     ensures { IfOk result (IsCheapest edges.now.items from to) }
 {
     match shortest_path(alloc, edges, from, to) {
-        // The greatest number is left for where no walk leads.
+        // The greatest number stands for a node that no walk leads to.
         Ok(Some(cost)) if cost < usize::MAX => Ok(cost as u64),
         Ok(None) => Ok(u64::MAX),
         _ => Err(AllocError),

@@ -9,7 +9,7 @@ use Rattle.dary_heap.specs.Bag.{IsSameBag}
 abbrev pub values : {T : Type 0} → List (Reverse T) → List T
 values items = map (λ r. r.0) items
 
--- of the items k were kept, or all where there are fewer, and the others left out; nothing left out is strictly greater than anything kept
+-- of the items k were kept, or all if there are fewer, and the others left out; nothing left out is strictly greater than anything kept
 pub record KeepsGreatest {T : Type 0} (cmp : T → T → Ordering) (k : ℕ) (items kept : List T) : Type 0 where
   pub left_out : List T
   pub together : IsSameBag items (kept ++ left_out)

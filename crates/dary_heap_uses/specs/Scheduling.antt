@@ -10,7 +10,7 @@ pub record Schedule (J : Type 0) : Type 0 where
   pub came : ℕ
   pub room : ℕ
 
--- a job that waits at a priority, where so many came before it
+-- a job that waits at a priority, if so many were added before it
 abbrev pub waiting : {J : Type 0} → ℕ → ℕ → J → Waiting J
 waiting priority number job = record { priority = priority; number = record { 0 = number }; job = job }
 

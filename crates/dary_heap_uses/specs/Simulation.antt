@@ -22,12 +22,12 @@ abbrev pub scheduled_in : List Step → List Event
 scheduled_in [] = []
 scheduled_in (step ∷ steps) = step.scheduled ++ scheduled_in steps
 
--- what it may cost to schedule so many events where n wait: a push for each
+-- what it may cost to schedule so many events while n wait: a push for each
 abbrev pub pushes_bound : ℕ → ℕ → ℕ
 pushes_bound n zero = 0
 pushes_bound n (suc more) = push_bound 3 n + pushes_bound (n + 1) more
 
--- what these steps may cost where n events wait: for each a pop, and a push for each event that was scheduled
+-- what these steps may cost while n events wait: for each a pop, and a push for each event that was scheduled
 abbrev pub steps_bound : ℕ → List Step → ℕ
 steps_bound n [] = 0
 steps_bound n (step ∷ steps) = pop_bound 3 n + pushes_bound (n - 1) (length step.scheduled) + steps_bound (n - 1 + length step.scheduled) steps

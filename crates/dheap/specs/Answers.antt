@@ -8,7 +8,7 @@ abbrev pub listing : List ℤ → List ℕ
 listing [] = codes "none"
 listing (x ∷ xs) = signed_decimal x ++ flat_map (λ y. codes " " ++ signed_decimal y) xs
 
--- the answer that a reply makes: none where it says that there was no memory
+-- the answer that a reply makes: none if it says that memory allocation failed
 abbrev pub answer : Reply ℤ → Option (List ℕ)
 answer Pushed = Some (codes "ok")
 answer Done = Some (codes "ok")

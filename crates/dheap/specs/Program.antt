@@ -6,7 +6,7 @@ use Rattle.dheap.specs.Answers.{answer, text}
 use Rattle.dheap.specs.Script.{Say, CarryOut, lines_of}
 use Rattle.dheap.specs.declared.serve.line.Line.{Line}
 
--- asked about x, the bound n answers whether x is at least n, and stays as it is
+-- called on x, the bound n returns whether x is at least n, and stays as it is
 abbrev pub AsksAtLeast : ℤ → ℤ → Bool → ℤ → Type 0
 AsksAtLeast n x answer after = (answer ≡ int_le n x) × (after ≡ n)
 

@@ -60,9 +60,9 @@ abbrev pub IsFirstBad : List (List ℕ) → ℕ → Type 0
 IsFirstBad texts number = (before : List (List ℕ)) × (bad : List ℕ) × (after : List (List ℕ)) × (texts ≡ before ++ bad ∷ after) × (number ≡ length before + 1)
     × ((lines : List Line) × Say before lines) × ((line : Line) → ¬ (Says (words_of bad) line))
 
--- `means n p`: the predicate p answers whether a number is at least n
+-- `means n p`: the predicate p returns whether a number is at least n
 module _ {P : Type 0} (means : ℤ → P → Type 0) where
-  -- these commands carry out a line: one, or none where it is blank
+  -- these commands carry out a line: one, or none if it is blank
   abbrev pub CarryOutLine : List (Command ℤ P) → Line → Type 0
   CarryOutLine commands Blank = commands ≡ []
   CarryOutLine commands (Push n) = commands ≡ machine.Push n ∷ []

@@ -57,11 +57,11 @@ pub fn serve<R: Read, W: Write, E: Write>(
     ensures status { result ≤ 4 }
     ensures usage { (result ≡ 2) ↔ ((d : ℕ) → ¬ (IsArity (map string_bytes words.now) d)) }
 
-    // Where a line may be bad, all lines were read, and nothing was written.
+    // If a line may be bad, all lines were read, and nothing was written.
     ensures whole { result < 2 → IsAtEnd (R.remaining input.new) }
     ensures silent { 0 < result → result < 3 → Keeps (W.contents output.old) (W.contents output.new) }
 
-    // Where it is known what is read: a line is bad, or all are good and their answers are written.
+    // If it is known what is read: a line is bad, or all are good and their answers are written.
     ensures bad { result ≡ 1 → IfSome (R.remaining input.old) (λ script. (number : ℕ) × IsFirstBad (lines_of script) number) }
     ensures printed { result ≡ 0 → IfSome (R.remaining input.old) (λ script. (printed : List ℕ) × MayPrint script printed × Appends (W.contents output.old) (W.contents output.new) printed) }
 {
@@ -126,7 +126,7 @@ fn answer<W: Write, const D: usize>(
     ensures printed { OnOk result ((printed : List ℕ) × MayPrint script.items printed × Appends (W.contents output.old) (W.contents output.new) printed) }
     ensures silent { IfErr result (λ fault. status_of fault < 3 → Keeps (W.contents output.old) (W.contents output.new)) }
 
-    // Where the output failed, the whole run went well before.
+    // If the output failed, the whole run went well before.
     ensures ran { IfErr result (λ fault. status_of fault ≡ 4 → (printed : List ℕ) × MayPrint script.items printed) }
 {
     let commands = commands(
@@ -280,8 +280,8 @@ fn pass_on<W: Write>(held: &mut Vec<u8>, output: &mut W) -> io::Result<()>
     Ok(())
 }
 
-/// Adds the line of a reply, or nothing where the reply says that there was no memory. Answers whether it
-/// had one.
+/// Adds the line of a reply, or nothing if the reply says that memory allocation failed. Returns whether
+/// it had one.
 fn write_reply<const D: usize>(
     reply: &Reply<i64, D>,
     held: &mut Vec<u8>,

@@ -24,8 +24,8 @@ pub(crate) fn start<V: Env, R: Read, W: Write, E: Write>(
     }
 }
 
-/// The arguments after the program's own name, which `std::env::args` would refuse as a whole where one
-/// isn't UTF-8.
+/// The arguments after the program's own name. `std::env::args` would fail as a whole if one isn't
+/// UTF-8.
 fn words<V: Env>(env: &V, alloc: Global) -> Result<Vec<String>, AllocError> {
     let mut words = Vec::new(alloc);
     for place in 1..usize::MAX {
@@ -37,7 +37,7 @@ fn words<V: Env>(env: &V, alloc: Global) -> Result<Vec<String>, AllocError> {
     Ok(words)
 }
 
-/// The argument at a place, or an empty word where it isn't UTF-8.
+/// The argument at a place, or an empty word if it isn't UTF-8.
 fn word<V: Env>(env: &V, alloc: Global, place: usize) -> Result<Option<String>, AllocError> {
     let mut room = 256usize;
     for _ in 0..usize::BITS {

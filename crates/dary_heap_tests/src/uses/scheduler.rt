@@ -3,7 +3,7 @@ use dary_heap_uses::scheduler::Scheduler;
 use std::process::Abort;
 use std::test::Fail;
 
-/// Adds a job, where not too many came yet.
+/// Adds a job, if not too many came yet.
 fn add(
     rt: &impl Abort,
     scheduler: &mut Scheduler<&'static str>,

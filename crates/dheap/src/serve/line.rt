@@ -171,7 +171,7 @@ fn count(word: &[u8]) -> Option<usize>
     Some(natural(without_plus(word))? as usize)
 }
 
-/// What comes after a plus, or all where none stands first.
+/// What comes after a plus, or all if none stands first.
 fn without_plus(word: &[u8]) -> &[u8]
     ensures { result.now ≡ without_leading_plus word.now }
 {
