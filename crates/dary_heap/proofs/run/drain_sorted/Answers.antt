@@ -1,5 +1,6 @@
-use Rattle.std.proofs.Common.{rules, ◌≡◌, ◌∷◌, [], length, min, Some, refl, sym, ap, ◌∙◌, subst, arith, length-append}
+use Rattle.std.proofs.Common.{rules, ◌≡◌, ℕ, ◌+◌, ◌≤◌, ◌∷◌, [], length, min, Some, refl, sym, ap, ◌∙◌, subst, arith, length-append}
 use Rattle.std.specs.Fn.{CalledAt}
+use Rattle.dary_heap.specs.Bounds.{RisesWithin}
 use Rattle.dary_heap.specs.Contents.{Contents}
 use Rattle.dary_heap.specs.DrainSorted.{drained_heap}
 use Rattle.dary_heap.specs.Popping.{IsPop}
@@ -49,13 +50,16 @@ loop-preserved g c =
       same_reference = c.next.ensures.steps.1 ∙ before.same_reference;
     }
 
+-- what was counted until the end, and then
+counted_on : {old mid new left bound : ℕ} → old ≤ mid → mid + left ≤ old + bound → RisesWithin mid new left → RisesWithin old new bound
+counted_on rises before last = record { rises = omega (arith, rises, last.rises); within = omega (arith, before, last.within) }
+
 pub returns : goal.returns
 returns g c =
     let before = c.loop.invariant in
+    let old = drained_heap c.drain_sorted-items.result in
     let begun = c.drain_sorted-items.ensures.heap in
-    let items = c.args.heap.now.items in
-    let long : length c.loop.taken.items ≡ min c.args.count (length items) = omega (arith, c.min-count.ensures, ap length c.as_slice.ensures.items, before.long, before.within, c.loop-test.false) in
-    drained_sorted c.args.heap.now _ c.drop-items.new.self.0 c.args.count c.loop.taken.items (drained_heap c.loop.items).items (search rules) (rw begun at before.through) long (rw begun at before.parts) c.drop-items.ensures.items record {
-      rises = omega (arith, c.drop-items.ensures.counted.rises, rw begun at before.rises);
-      within = omega (arith, c.drop-items.ensures.counted.within, rw begun at before.counted);
-    }
+    let items : length c.args.heap.now.items ≡ length old.items = ap (λ (it : Contents g.row.T.Denot). length it.items) (sym begun) in
+    let long : length c.loop.taken.items ≡ min c.args.count (length old.items) = omega (arith, c.min-count.ensures, ap length c.as_slice.ensures.items, items, before.long, before.within, c.loop-test.false) in
+    rw (← begun) (drained_sorted old _ c.drop-items.new.self.0 c.args.count c.loop.taken.items (drained_heap c.loop.items).items (search rules) before.through long before.parts c.drop-items.ensures.items
+    (counted_on before.rises before.counted c.drop-items.ensures.counted))

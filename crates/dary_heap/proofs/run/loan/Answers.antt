@@ -1,8 +1,8 @@
-use Rattle.std.proofs.Common.{rules, ◌≡◌, ℕ, ◌+◌, ◌*◌, ◌≤◌, ◌++◌, ◌∷◌, [], length, refl, sym, ap, ◌∙◌, subst, arith, append_assoc, append-nil, length-append, map, slice_set}
+use Rattle.std.proofs.Common.{rules, ◌≡◌, ℕ, ◌+◌, ◌*◌, ◌≤◌, ◌++◌, ◌∷◌, List, [], length, refl, sym, ap, ◌∙◌, subst, arith, vec_capacity, append_assoc, append-nil, length-append, map, slice_set}
 use Rattle.std.proofs.lemmas.List.{map-append, length-map}
 use Rattle.std.proofs.Math.ListN.{length-set}
 use Rattle.std.specs.Fn.{CalledAt}
-use Rattle.std.specs.Vec.Iter.{into_iter_items}
+use Rattle.std.specs.Vec.Iter.{into_iter_items, into_iter_len}
 use borrow.Author.Tests.{eqb-true, eqb-false}
 use Rattle.dary_heap.specs.Bounds.{RisesWithin, refreshes, sink_bound}
 use Rattle.dary_heap.specs.Contents.{Contents}
@@ -50,6 +50,10 @@ push_reserved-requires g c =
     let before = c.loop-act.invariant in
     omega (arith, before.space, before.told, ap length before.split, length-append c.loop-act.yielded (into_iter_items c.loop-act.act-iterator), ap length c.in-Some.ensures.steps.0)
 
+-- two lists of one length, each with an item more
+longer : {A B : Type 0} (xs more : List A) (ys : List B) (x : A) (y : B) → more ≡ xs ++ x ∷ [] → length xs ≡ length ys → length more ≡ length (ys ++ y ∷ [])
+longer xs more ys x y is same = omega (arith, ap length is, length-append xs (x ∷ []), length-append ys (y ∷ []), same)
+
 pub loop-act-preserved : goal.loop-act-preserved
 loop-act-preserved g c =
     let before = c.loop-act.invariant in
@@ -63,7 +67,9 @@ loop-act-preserved g c =
     let mid = (loaned c.loop-act.loan).items in
     let each = sink_bound g.row.D (length begun) in
     let split = before.split ∙ ap (λ xs. yielded ++ xs) steps.0 ∙ sym (append_assoc yielded (act ∷ []) rest) in
-    let both : length c.push_reserved.new.self.items ≡ length (yielded ++ act ∷ []) = omega (arith, ap length c.push_reserved.ensures.items, length-append c.loop-act.seen.items (c.match-act.push_reserved ∷ []), length-append yielded (act ∷ []), before.told) in
+    let both : length c.push_reserved.new.self.items ≡ length (yielded ++ act ∷ []) = longer c.loop-act.seen.items c.push_reserved.new.self.items yielded c.match-act.push_reserved act c.push_reserved.ensures.items before.told in
+    let left : into_iter_len c.next.new.self ≡ length rest = omega (arith, ap length steps.0, steps.1, before.left) in
+    let space : length c.args.acts.items ≤ vec_capacity c.push_reserved.new.self = omega (arith, before.space, c.push_reserved.ensures.capacity) in
     elim c.match-act.branch [
       | in-Write w ↦
           let item = w.in-Write.item in
@@ -73,13 +79,13 @@ loop-act-preserved g c =
           let sees : read.sights c.push_reserved.new.self.items ≡ read.sights c.loop-act.seen.items ++ machine.Old w.deref_mut.result.now ∷ [] = told ∙ ap (λ s. read.sights c.loop-act.seen.items ++ read.sight s ∷ []) w.push_reserved-is ∙ ap (λ v. read.sights c.loop-act.seen.items ++ machine.Old v ∷ []) w.replace.ensures.value in
           record {
             split = split;
-            left = omega (arith, ap length steps.0, steps.1, before.left);
+            left = left;
             told = both;
-            space = omega (arith, before.space, c.push_reserved.ensures.capacity);
+            space = space;
             acted = rw (writes, sees, now) acted;
             len = ap length now ∙ length-set mid 0 item ∙ before.len;
             rises = rw w.loan-is before.rises;
-            counted = rw w.loan-is (omega (arith, before.counted, ap (λ acts. refreshes acts * each) writes, cost-write (read.acts yielded) item each));
+            counted = rw w.loan-is (rw (writes, cost-write (read.acts yielded) item each) before.counted);
             same_reference = rw w.loan-is before.same_reference;
           }
       | in-Refresh w ↦
@@ -90,9 +96,9 @@ loop-act-preserved g c =
           let sees : read.sights c.push_reserved.new.self.items ≡ read.sights c.loop-act.seen.items ++ machine.Changed w.refresh.result ∷ [] = told ∙ ap (λ s. read.sights c.loop-act.seen.items ++ read.sight s ∷ []) w.push_reserved-is in
           record {
             split = split;
-            left = omega (arith, ap length steps.0, steps.1, before.left);
+            left = left;
             told = both;
-            space = omega (arith, before.space, c.push_reserved.ensures.capacity);
+            space = space;
             acted = rw (refreshed, sees, now) acted;
             len = ap length now ∙ h.len ∙ before.len;
             rises = rw w.loan-is (omega (arith, before.rises, h.counted.rises));

@@ -25,3 +25,39 @@ pub returns-in-Ask : goal.returns-in-Ask
 returns-in-Ask g c =
     let e = c.ask.ensures in
     rw c.in-Ask.is (asks g.P.FnMut g.met.P.FnMut.1.post_iff c.args.heap.now c.in-Ask.predicate c.ask.result e.empty e.asked e.ordered)
+
+pub returns-in-Push : goal.returns-in-Push
+returns-in-Push g c = rw c.in-Push.is c.push.ensures
+
+pub returns-in-Pop : goal.returns-in-Pop
+returns-in-Pop g c = rw c.in-Pop.is c.pop.ensures
+
+pub returns-in-Len : goal.returns-in-Len
+returns-in-Len g c = rw c.in-Len.is c.len.ensures
+
+pub returns-in-Retain : goal.returns-in-Retain
+returns-in-Retain g c = rw c.in-Retain.is c.retain.ensures
+
+pub returns-in-Extend : goal.returns-in-Extend
+returns-in-Extend g c = rw c.in-Extend.is c.extend.ensures
+
+pub returns-in-Append : goal.returns-in-Append
+returns-in-Append g c = rw c.in-Append.is c.append.ensures
+
+pub returns-in-Reserve : goal.returns-in-Reserve
+returns-in-Reserve g c = rw c.in-Reserve.is c.reserve.ensures
+
+pub returns-in-Shrink : goal.returns-in-Shrink
+returns-in-Shrink g c = rw c.in-Shrink.is c.shrink.ensures
+
+pub returns-in-Clear : goal.returns-in-Clear
+returns-in-Clear g c = rw c.in-Clear.is c.clear.ensures
+
+pub returns-in-Drain : goal.returns-in-Drain
+returns-in-Drain g c = rw c.in-Drain.is c.drain.ensures
+
+pub returns-in-DrainSorted : goal.returns-in-DrainSorted
+returns-in-DrainSorted g c = rw c.in-DrainSorted.is c.drain_sorted.ensures
+
+pub returns-in-Loan : goal.returns-in-Loan
+returns-in-Loan g c = rw c.in-Loan.is c.loan.ensures

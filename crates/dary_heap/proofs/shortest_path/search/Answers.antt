@@ -1,17 +1,23 @@
-use Rattle.std.proofs.Common.{◌≡◌, ℕ, ◌+◌, ◌*◌, [], ◌∷◌, ◌++◌, ◌∙◌, length, ap, arith, refl, slice_set, sym, subst, lit<}
+use Rattle.std.proofs.Common.{◌≡◌, ℕ, ◌+◌, ◌*◌, List, [], ◌∷◌, ◌++◌, ◌∙◌, length, ap, arith, refl, slice_set, sym, subst, lit<}
 use Rattle.std.proofs.lemmas.List.{get_or_default}
 use Rattle.std.proofs.lemmas.List.Sorted.{length_permutation}
 use Rattle.std.proofs.lemmas.Result.{err_from_is_err_and}
 use Rattle.dary_heap.proofs.Bags.{has_none}
 use Rattle.std.proofs.lemmas.Option.{slice_get_read}
-use Rattle.dary_heap.specs.Examining.{AreExaminedOnce, edges_of}
+use Rattle.dary_heap.specs.Examining.{AreExaminedOnce, all_edges_of, edges_of}
 use Rattle.dary_heap.specs.Bounds.{RisesWithin, push_bound, pop_bound}
 use Rattle.dary_heap.specs.Contents.{Contents}
+use Rattle.dary_heap.specs.declared.shortest_path.Edge.{Edge}
 use Rattle.dary_heap.specs.declared.shortest_path.State.{State}
-use Rattle.dary_heap.proofs.Examining.{all_examined, charged_ends, last_examined, none_examined, once_few, distinct_node, IsCharged, charged_begins, charged_long, charged_pop, charged_push, all_edges_more, edges_at, once_begins, once_more, once_skips}
+use Rattle.dary_heap.specs.Walk.{Graph}
+use Rattle.dary_heap.proofs.Examining.{AreOnce, all_examined, charged_ends, last_examined, none_examined, once_few, distinct_node, IsCharged, charged_begins, charged_long, charged_pop, charged_push, all_edges_more, edges_at, once_begins, once_more, once_skips}
 use Rattle.dary_heap.proofs.Searching.{IsSearch, taken, found_least, found_uncritical, none_reached, none_uncritical, too_large, after_skip, after_examining, begins}
+use Rattle.dary_heap.proofs.Serving.{stays}
 use Rattle.dary_heap.proofs.shortest_path.search.Goals.{In_default-pop, In_err-relax}
 use Rattle.dary_heap.proofs.shortest_path.search.Goals as goal
+
+pub index_mut-requires : goal.index_mut-requires
+index_mut-requires c = omega (arith, c.requires.start, c.in-Ok.ensures.len, c.len.ensures)
 
 pub loop-cost-init : goal.loop-cost-init
 loop-cost-init c =
@@ -33,6 +39,9 @@ returns-then-position-goal-clause-uncritical c = found_uncritical c.loop-cost.in
 
 pub index-requires : goal.index-requires
 index-requires c = omega (arith, (taken c.loop-cost.invariant.search c.in-Some.ensures.bag).within)
+
+pub index-requires-in-Some : goal.index-requires-in-Some
+index-requires-in-Some c = omega (arith, (taken c.loop-cost.invariant.search c.in-Some.ensures.bag).within, c.loop-cost.invariant.search.long)
 
 pub loop-cost-preserved-then-cost-index : goal.loop-cost-preserved-then-cost-index
 loop-cost-preserved-then-cost-index c =
@@ -63,6 +72,15 @@ loop-cost-preserved c =
       charged = charged_long _ _ so_far.these so_far.examined (charged_push (charged_pop before.charged (omega (arith, length_permutation _ _ c.in-Some.ensures.bag)) c.in-Some.ensures.counted) so_far.pushes);
     }
 
+pub returns-in_err-relax-clause-least : goal.returns-in_err-relax-clause-least
+returns-in_err-relax-clause-least c = rw (err_from_is_err_and c.from_residual.result c.from_residual.ensures.1).1 tt
+
+pub returns-in_err-relax-clause-unreached : goal.returns-in_err-relax-clause-unreached
+returns-in_err-relax-clause-unreached c = rw (err_from_is_err_and c.from_residual.result c.from_residual.ensures.1).1 tt
+
+pub returns-in_err-relax-clause-uncritical : goal.returns-in_err-relax-clause-uncritical
+returns-in_err-relax-clause-uncritical c = rw (err_from_is_err_and c.from_residual.result c.from_residual.ensures.1).1 tt
+
 pub returns-in_err-relax-clause-too_large : goal.returns-in_err-relax-clause-too_large
 returns-in_err-relax-clause-too_large c =
     let p = err_from_is_err_and c.from_residual.result c.from_residual.ensures.1 in
@@ -80,19 +98,78 @@ returns-clause-unreached c = none_reached (ended (goal.at.returns-clause-unreach
 pub returns-clause-uncritical : goal.returns-clause-uncritical
 returns-clause-uncritical c = none_uncritical (ended (goal.at.returns-clause-uncritical c).In_default-pop)
 
-pub returns-in_default-clause-once : goal.returns-in_default-clause-once
-returns-in_default-clause-once c = none_examined c.args.adj_list.now.items c.args.work.now.examined c.requires.unexamined
+-- the edges examined so far
+all_once : {limit : ℕ} {g : Graph} {found : List ℕ} {waiting : List State} {examined : List Edge} → (nodes : List ℕ) × AreOnce limit found waiting nodes × (all_edges_of g nodes ≡ examined) → AreExaminedOnce g examined
+all_once once = all_examined _ once.0 _ once.1.distinct once.2
 
-pub returns-in_default-push-clause-once : goal.returns-in_default-push-clause-once
-returns-in_default-push-clause-once c = none_examined c.args.adj_list.now.items c.add_push.new.self.examined (c.add_push.ensures.examined ∙ c.requires.unexamined)
+pub returns-in_default-clause-least : goal.returns-in_default-clause-least
+returns-in_default-clause-least c = tt
 
-pub returns-then-position-goal-clause-within : goal.returns-then-position-goal-clause-within
-returns-then-position-goal-clause-within c =
-    let before = c.loop-cost.invariant in
-    once_few (all_examined c.args.adj_list.now.items before.once.0 c.loop-cost.work.examined before.once.1.distinct before.once.2)
+pub returns-in_default-clause-unreached : goal.returns-in_default-clause-unreached
+returns-in_default-clause-unreached c = tt
 
-pub returns-then-position-goal-clause-counted : goal.returns-then-position-goal-clause-counted
-returns-then-position-goal-clause-counted c = charged_ends {heap = c.pop.new.self} (charged_pop c.loop-cost.invariant.charged (omega (arith, length_permutation _ _ c.in-Some.ensures.bag)) c.in-Some.ensures.counted)
+pub returns-in_default-clause-uncritical : goal.returns-in_default-clause-uncritical
+returns-in_default-clause-uncritical c = tt
+
+pub returns-in_default-clause-too_large : goal.returns-in_default-clause-too_large
+returns-in_default-clause-too_large c = λ is. cc
+
+pub returns-in_default-clause-within : goal.returns-in_default-clause-within
+returns-in_default-clause-within c = omega (arith, ap length c.requires.unexamined)
+
+pub returns-in_default-clause-pushed : goal.returns-in_default-clause-pushed
+returns-in_default-clause-pushed c = omega (arith, c.requires.unpushed)
+
+pub returns-in_default-clause-few : goal.returns-in_default-clause-few
+returns-in_default-clause-few c = omega (arith, ap length c.requires.empty)
+
+pub returns-in_default-clause-counted : goal.returns-in_default-clause-counted
+returns-in_default-clause-counted c = stays _ _
+
+pub returns-in_default-push-clause-least : goal.returns-in_default-push-clause-least
+returns-in_default-push-clause-least c = tt
+
+pub returns-in_default-push-clause-unreached : goal.returns-in_default-push-clause-unreached
+returns-in_default-push-clause-unreached c = tt
+
+pub returns-in_default-push-clause-uncritical : goal.returns-in_default-push-clause-uncritical
+returns-in_default-push-clause-uncritical c = tt
+
+pub returns-in_default-push-clause-too_large : goal.returns-in_default-push-clause-too_large
+returns-in_default-push-clause-too_large c = λ is. cc
+
+pub returns-in_default-push-clause-within : goal.returns-in_default-push-clause-within
+returns-in_default-push-clause-within c = omega (arith, ap length (c.add_push.ensures.examined ∙ c.requires.unexamined))
+
+pub returns-in_default-push-clause-pushed : goal.returns-in_default-push-clause-pushed
+returns-in_default-push-clause-pushed c = omega (arith, c.add_push.ensures.pushes, c.requires.unpushed)
+
+pub returns-in_default-push-clause-few : goal.returns-in_default-push-clause-few
+returns-in_default-push-clause-few c = omega (arith, c.in_default-push.ensures.len, ap length c.requires.empty)
+
+pub returns-in_default-push-clause-counted : goal.returns-in_default-push-clause-counted
+returns-in_default-push-clause-counted c = rw c.in_default-push.ensures.unchanged (stays _ _)
+
+pub returns-then-position-goal-clause-unreached : goal.returns-then-position-goal-clause-unreached
+returns-then-position-goal-clause-unreached c = tt
+
+pub returns-then-position-goal-clause-too_large : goal.returns-then-position-goal-clause-too_large
+returns-then-position-goal-clause-too_large c = tt
+
+pub returns-then-position-goal-clause-once : goal.returns-then-position-goal-clause-once
+returns-then-position-goal-clause-once c = all_once c.loop-cost.invariant.once
+
+pub returns-then-position-goal-clause-pushed : goal.returns-then-position-goal-clause-pushed
+returns-then-position-goal-clause-pushed c = c.loop-cost.invariant.pushed
+
+pub returns-then-position-goal-clause-few : goal.returns-then-position-goal-clause-few
+returns-then-position-goal-clause-few c = omega (arith, c.loop-cost.invariant.charged.few, c.in-Some.ensures.len)
+
+pub loop-cost-smaller-then-cost-index : goal.loop-cost-smaller-then-cost-index
+loop-cost-smaller-then-cost-index c = omega (arith, length_permutation _ _ c.in-Some.ensures.bag)
+
+pub loop-cost-smaller : goal.loop-cost-smaller
+loop-cost-smaller c = omega (arith, c.in_ok-relax.ensures.ok.spent, length_permutation _ _ c.in-Some.ensures.bag)
 
 -- the first of a node's edges were examined where memory was missing, or a sum too large
 stopped : (c : In_err-relax) → AreExaminedOnce c.args.adj_list.now.items c.relax.new.work.examined
@@ -105,6 +182,45 @@ stopped c =
     last_examined c.args.adj_list.now.items before.once.0 c.in-Some.field-0.position c.index-in-Some.result.now.items c.loop-cost.work.examined c.relax.new.work.examined so_far.these so_far.others
     (distinct_node before.once.1 bag c.index.result.now known c.if-cost-index.false) before.once.2 row so_far.first so_far.examined
 
+-- what the pushes and pops cost until then
+charged : (c : In_err-relax) → IsCharged c.args.heap.now.comparisons c.relax.new.heap (length c.relax.new.work.examined)
+charged c =
+    let so_far = c.in_err-relax.ensures.once in
+    charged_long _ _ so_far.these so_far.examined (charged_push (charged_pop c.loop-cost.invariant.charged (omega (arith, length_permutation _ _ c.in-Some.ensures.bag)) c.in-Some.ensures.counted) so_far.pushes)
+
+pub returns-in_err-relax-clause-pushed : goal.returns-in_err-relax-clause-pushed
+returns-in_err-relax-clause-pushed c = omega (arith, c.loop-cost.invariant.pushed, c.in_err-relax.ensures.pushed)
+
+pub returns-in_err-relax-clause-few : goal.returns-in_err-relax-clause-few
+returns-in_err-relax-clause-few c = omega (arith, (charged (goal.at.returns-in_err-relax-clause-few c).In_err-relax).few)
+
+pub returns-clause-least : goal.returns-clause-least
+returns-clause-least c = tt
+
+pub returns-clause-too_large : goal.returns-clause-too_large
+returns-clause-too_large c = tt
+
+pub returns-clause-once : goal.returns-clause-once
+returns-clause-once c = all_once c.loop-cost.invariant.once
+
+pub returns-clause-pushed : goal.returns-clause-pushed
+returns-clause-pushed c = c.loop-cost.invariant.pushed
+
+pub returns-clause-few : goal.returns-clause-few
+returns-clause-few c = omega (arith, c.loop-cost.invariant.charged.few, c.in_default-pop.ensures.len)
+
+pub returns-in_default-clause-once : goal.returns-in_default-clause-once
+returns-in_default-clause-once c = none_examined c.args.adj_list.now.items c.args.work.now.examined c.requires.unexamined
+
+pub returns-in_default-push-clause-once : goal.returns-in_default-push-clause-once
+returns-in_default-push-clause-once c = none_examined c.args.adj_list.now.items c.add_push.new.self.examined (c.add_push.ensures.examined ∙ c.requires.unexamined)
+
+pub returns-then-position-goal-clause-within : goal.returns-then-position-goal-clause-within
+returns-then-position-goal-clause-within c = once_few (all_once c.loop-cost.invariant.once)
+
+pub returns-then-position-goal-clause-counted : goal.returns-then-position-goal-clause-counted
+returns-then-position-goal-clause-counted c = charged_ends {heap = c.pop.new.self} (charged_pop c.loop-cost.invariant.charged (omega (arith, length_permutation _ _ c.in-Some.ensures.bag)) c.in-Some.ensures.counted)
+
 pub returns-in_err-relax-clause-once : goal.returns-in_err-relax-clause-once
 returns-in_err-relax-clause-once c = stopped (goal.at.returns-in_err-relax-clause-once c).In_err-relax
 
@@ -112,14 +228,10 @@ pub returns-in_err-relax-clause-within : goal.returns-in_err-relax-clause-within
 returns-in_err-relax-clause-within c = once_few (stopped (goal.at.returns-in_err-relax-clause-within c).In_err-relax)
 
 pub returns-in_err-relax-clause-counted : goal.returns-in_err-relax-clause-counted
-returns-in_err-relax-clause-counted c =
-    let so_far = c.in_err-relax.ensures.once in
-    charged_ends (charged_long _ _ so_far.these so_far.examined (charged_push (charged_pop c.loop-cost.invariant.charged (omega (arith, length_permutation _ _ c.in-Some.ensures.bag)) c.in-Some.ensures.counted) so_far.pushes))
+returns-in_err-relax-clause-counted c = charged_ends (charged (goal.at.returns-in_err-relax-clause-counted c).In_err-relax)
 
 pub returns-clause-within : goal.returns-clause-within
-returns-clause-within c =
-    let before = c.loop-cost.invariant in
-    once_few (all_examined c.args.adj_list.now.items before.once.0 c.loop-cost.work.examined before.once.1.distinct before.once.2)
+returns-clause-within c = once_few (all_once c.loop-cost.invariant.once)
 
 pub returns-clause-counted : goal.returns-clause-counted
 returns-clause-counted c =

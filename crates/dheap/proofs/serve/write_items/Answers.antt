@@ -1,5 +1,5 @@
-use Rattle.std.proofs.Common.{rules, ◌++◌, flat_map, codes, ap, ◌∙◌}
-use Rattle.std.proofs.lemmas.List.{take_all}
+use Rattle.std.proofs.Common.{rules, ◌≡◌, ℤ, pos, ◌++◌, flat_map, codes, get_or, take, ap, sym, ◌∙◌}
+use Rattle.std.proofs.lemmas.List.{flat_map_more, take_all, take_more}
 use Rattle.std.specs.Fmt.{signed_decimal}
 use Rattle.dheap.proofs.Decimals.{listing_held}
 use Rattle.dheap.proofs.serve.write_items.Goals as goal
@@ -10,3 +10,22 @@ returns c =
     let all = take_all c.loop-item.item-index others c.loop-item-test.false in
     listing_held c.write_item-2.result c.args.items.now others _ c.args.held.now.items c.loop-item.held.items _ (search rules)
     (c.loop-item.invariant ∙ ap (λ xs. c.args.held.now.items ++ flat_map (λ x. signed_decimal x ++ codes " ") xs) all) c.write_item-2.ensures
+
+pub loop-item-preserved : goal.loop-item-preserved
+loop-item-preserved c =
+    let l = c.loop-item in
+    let others = c.in-Some.others.now in
+    let spaced = λ (x : ℤ). signed_decimal x ++ codes " " in
+    let item = get_or others l.item-index (pos 0) in
+    let written : c.write_item.new.held.items ≡ l.held.items ++ spaced item = search rules in
+    written ∙ ap (λ xs. xs ++ spaced item) l.invariant ∙ flat_map_more spaced c.args.held.now.items (take l.item-index others) item
+    ∙ ap (λ xs. c.args.held.now.items ++ flat_map spaced xs) (sym (take_more others l.item-index (pos 0) c.loop-item-test.true))
+
+pub loop-item-init : goal.loop-item-init
+loop-item-init c = search rules
+
+pub returns-in_default : goal.returns-in_default
+returns-in_default c = search rules
+
+pub returns-in_err-write_item : goal.returns-in_err-write_item
+returns-in_err-write_item c = search rules

@@ -1,7 +1,8 @@
-use Rattle.std.proofs.lemmas.List.Sorted.{IsPermutation-refl}
-use Rattle.std.proofs.Common.{rules, ◌≡◌, ap, ◌∙◌, length, arith}
+use Rattle.std.proofs.lemmas.List.Sorted.{IsPermutation-refl, length_permutation}
+use Rattle.std.proofs.Common.{rules, ◌≡◌, refl, ap, ◌∙◌, length}
 use Rattle.dary_heap.specs.State.{front}
 use Rattle.dary_heap.proofs.Loans.{lone_uncounted, lone_unexceeded, sunk_unmoved}
+use Rattle.dary_heap.proofs.Serving.{stays}
 use Rattle.dary_heap.proofs.Written.{same_contents, written_back}
 use Rattle.dary_heap.proofs.peek_mut.PeekMut.drop.Goals as goal
 use Rattle.dary_heap.proofs.peek_mut.PeekMut.drop.Goals.{then-written, else-written}
@@ -11,8 +12,7 @@ returns-clause-unmoved g c = λ none.
     ap (λ v. v.items) c.swap.ensures.x_after ∙ (elim c.if-written.branch [
       | then-written w ↦
           let zs = w.sink_with.new.items in
-          let long = c.into_vec-items.result.ok.0 in
-          let all : length zs ≡ c.into_vec-items.result.len = omega arith in
+          let all : length zs ≡ c.into_vec-items.result.len = w.sink_with.auto.items ∙ w.as_mut_slice.ensures.len in
           let is = w.as_mut_slice.ensures.value ∙ c.into_vec-items.ensures.items in
           rw (w.items-is, written_back _ zs _ all) (sunk_unmoved g.row.D _ zs _ (rw is at w.sink_with.ensures.moved) (rw is at w.sink_with.ensures.unchanged) none)
       | else-written w ↦ rw w.items-is c.into_vec-items.ensures.items
@@ -27,8 +27,7 @@ returns-clause-ordered g c =
     rw c.swap.ensures.x_after (elim c.if-written.branch [
       | then-written w ↦
           let zs = w.sink_with.new.items in
-          let long = c.into_vec-items.result.ok.0 in
-          let all : length zs ≡ c.into_vec-items.result.len = omega arith in
+          let all : length zs ≡ c.into_vec-items.result.len = w.sink_with.auto.items ∙ w.as_mut_slice.ensures.len in
           let is = w.as_mut_slice.ensures.value ∙ c.into_vec-items.ensures.items in
           rw (w.items-is, written_back _ zs _ all) ((rw is at w.sink_with.ensures.ordered) lent.below_root)
       | else-written w ↦ rw (w.items-is, c.into_vec-items.ensures.items) (lent.whole w.if-written.false)
@@ -45,8 +44,7 @@ invariant_of-heap g c =
     rw c.swap.ensures.x_after (elim c.if-written.branch [
       | then-written w ↦
           let zs = w.sink_with.new.items in
-          let long = c.into_vec-items.result.ok.0 in
-          let all : length zs ≡ c.into_vec-items.result.len = omega arith in
+          let all : length zs ≡ c.into_vec-items.result.len = w.sink_with.auto.items ∙ w.as_mut_slice.ensures.len in
           let is = w.as_mut_slice.ensures.value ∙ c.into_vec-items.ensures.items in
           rw (w.items-is, written_back _ zs _ all) ((rw is at w.sink_with.ensures.ordered) lent.below_root)
       | else-written w ↦ rw (w.items-is, c.into_vec-items.ensures.items) (lent.whole w.if-written.false)
@@ -56,8 +54,7 @@ pub returns-clause-bag : goal.returns-clause-bag
 returns-clause-bag g c = rw c.swap.ensures.x_after (elim c.if-written.branch [
   | then-written w ↦
       let zs = w.sink_with.new.items in
-      let long = c.into_vec-items.result.ok.0 in
-      let all : length zs ≡ c.into_vec-items.result.len = omega arith in
+      let all : length zs ≡ c.into_vec-items.result.len = w.sink_with.auto.items ∙ w.as_mut_slice.ensures.len in
       let is = w.as_mut_slice.ensures.value ∙ c.into_vec-items.ensures.items in
       rw (w.items-is, written_back _ zs _ all) (rw is at w.sink_with.ensures.bag)
   | else-written w ↦ rw (w.items-is, c.into_vec-items.ensures.items) (IsPermutation-refl _)
@@ -66,11 +63,29 @@ returns-clause-bag g c = rw c.swap.ensures.x_after (elim c.if-written.branch [
 pub returns-clause-counted : goal.returns-clause-counted
 returns-clause-counted g c = rw (← c.heap.view_is) (elim c.if-written.branch [
   | then-written w ↦ rw w.heap-inside-is (rw (w.as_mut_slice.ensures.value, c.into_vec-items.ensures.items) at w.sink_with.ensures.counted)
-  | else-written w ↦ rw w.heap-inside-is record { rises = omega arith; within = omega arith }
+  | else-written w ↦ rw w.heap-inside-is (stays _ _)
 ])
 
 pub returns-clause-tight : goal.returns-clause-tight
 returns-clause-tight g c = rw (← c.heap.view_is) (elim c.if-written.branch [
   | then-written w ↦ rw w.heap-inside-is (rw (w.as_mut_slice.ensures.value, c.into_vec-items.ensures.items) at w.sink_with.ensures.tight)
-  | else-written w ↦ rw w.heap-inside-is record { rises = omega arith; within = omega arith }
+  | else-written w ↦ rw w.heap-inside-is (stays _ _)
 ])
+
+pub returns-clause-len : goal.returns-clause-len
+returns-clause-len g c = length_permutation _ _ (returns-clause-bag g c)
+
+pub returns-clause-capacity : goal.returns-clause-capacity
+returns-clause-capacity g c = rw c.swap.ensures.x_after (elim c.if-written.branch [
+  | then-written w ↦ rw w.items-is c.into_vec-items.ensures.capacity
+  | else-written w ↦ rw w.items-is c.into_vec-items.ensures.capacity
+])
+
+pub returns-clause-unwritten : goal.returns-clause-unwritten
+returns-clause-unwritten g c = λ settled. rw c.swap.ensures.x_after (elim c.if-written.branch [
+  | then-written w ↦ let is = w.if-written.true in cc
+  | else-written w ↦ same_contents _ _ (rw w.items-is c.into_vec-items.ensures.items) (rw w.items-is c.into_vec-items.ensures.capacity) (rw (w.heap-inside-is, ← c.heap.view_is) refl)
+])
+
+pub invariant_of-self : goal.invariant_of-self
+invariant_of-self g c = record { lent = c.args.self.lent }

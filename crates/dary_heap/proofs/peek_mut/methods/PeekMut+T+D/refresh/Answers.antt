@@ -1,17 +1,31 @@
 use Rattle.std.proofs.Common.{rules, refl, ap, ◌≡◌, ◌∙◌, List, ◌++◌, length, take, arith}
 use Rattle.dary_heap.specs.Contents.{Contents}
-use Rattle.std.proofs.lemmas.List.Sorted.{length_permutation}
+use Rattle.std.proofs.lemmas.List.Sorted.{IsPermutation-refl, length_permutation}
 use Rattle.dary_heap.proofs.BelowRoot.{below_root}
 use Rattle.dary_heap.proofs.Fronts.{ordered_state}
 use Rattle.dary_heap.proofs.Loans.{lone_uncounted, lone_unexceeded, none_exceeds, sunk_moved, sunk_unmoved}
+use Rattle.dary_heap.proofs.Serving.{stays}
 use Rattle.dary_heap.proofs.Written.{same_contents, written_back}
 use Rattle.dary_heap.proofs.peek_mut.methods.PeekMut+T+D.refresh.Goals as goal
 
-pub returns-then-not-self-clause-moved : goal.returns-then-not-self-clause-moved
-returns-then-not-self-clause-moved g c = (λ never. cc, λ over. absurd (none_exceeds g.row.D g.met.T.Ord.total _ (c.args.self.now.lent.whole (search rules)) over))
-
-pub returns-then-not-self-clause-greatest : goal.returns-then-not-self-clause-greatest
-returns-then-not-self-clause-greatest g c = ordered_state g.met.T.Ord.total g.row.D _ (c.args.self.now.lent.whole (search rules))
+pub returns-then-not-self : goal.returns-then-not-self
+returns-then-not-self g c =
+    let ordered = c.args.self.now.lent.whole (search rules) in
+    record {
+      moved = (λ never. cc, λ over. absurd (none_exceeds g.row.D g.met.T.Ord.total _ ordered over));
+      bag = IsPermutation-refl _;
+      len = refl;
+      greatest = ordered_state g.met.T.Ord.total g.row.D _ ordered;
+      ordered = ordered;
+      settled = search rules;
+      counted = stays _ _;
+      capacity = refl;
+      same_reference = refl;
+      tight = stays _ _;
+      unmoved = refl;
+      unwritten = λ same. refl;
+      alone = λ one. refl;
+    }
 
 pub returns-clause-moved : goal.returns-clause-moved
 returns-clause-moved g c =
@@ -69,3 +83,21 @@ returns-clause-tight g c = rw (← c.heap.view_is) (rw c.as_mut_slice.ensures.va
 
 pub returns-clause-unwritten : goal.returns-clause-unwritten
 returns-clause-unwritten g c = λ unwritten. let is = c.if-not-self.false in cc
+
+pub invariant_of-heap : goal.invariant_of-heap
+invariant_of-heap g c = c.heap.invariant
+
+pub returns-clause-len : goal.returns-clause-len
+returns-clause-len g c = length_permutation _ _ (returns-clause-bag g c)
+
+pub returns-clause-capacity : goal.returns-clause-capacity
+returns-clause-capacity g c = refl
+
+pub returns-clause-same_reference : goal.returns-clause-same_reference
+returns-clause-same_reference g c = refl
+
+pub returns-clause-settled : goal.returns-clause-settled
+returns-clause-settled g c = refl
+
+pub returns-clause-unmoved : goal.returns-clause-unmoved
+returns-clause-unmoved g c = rw (written g c _) (rw c.as_mut_slice.ensures.value at c.sink_with-moved.ensures.unchanged)

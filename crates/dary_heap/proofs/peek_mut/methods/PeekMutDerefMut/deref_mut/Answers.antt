@@ -1,6 +1,7 @@
 use Rattle.std.proofs.Common.{refl, length}
 use Rattle.std.proofs.lemmas.Option.{slice_get_read}
 use Rattle.dary_heap.specs.Lending.{with_first-is}
+use Rattle.dary_heap.specs.Loan.{IsLent-written}
 use Rattle.dary_heap.proofs.peek_mut.methods.PeekMutDerefMut.deref_mut.Goals as goal
 
 pub returns : goal.returns
@@ -10,3 +11,16 @@ returns g c =
       (refl, λ w. with_first-is g.row.D g.T.Ord g.T.PartialEq g.T.PartialOrd loan w _),
       record { writes_back = tt; first = slice_get_read xs (length xs) 0 c.index_mut.result.now refl loan.lent.some c.index_mut.ensures.value },
     )
+
+pub index_mut-requires : goal.index_mut-requires
+index_mut-requires g c = rw c.args.self.now.items.ok.0 c.args.self.now.lent.some
+
+pub invariant_of-self : goal.invariant_of-self
+invariant_of-self g c =
+    let lent = c.args.self.now.lent in
+    record { lent = record { some = lent.some; below_root = lent.below_root; whole = λ settled. absurd (cc) } }
+
+pub invariant_of-self-lent : goal.invariant_of-self-lent
+invariant_of-self-lent g c =
+    let loan = c.args.self.now in
+    λ w. (IsLent-written g.T.Ord.cmp g.row.D loan.written loan.items.items w loan.lent, tt)
