@@ -5,6 +5,7 @@ use Rattle.std.proofs.lemmas.List.{get_or-map, length-map}
 use Rattle.std.proofs.lemmas.List.Elements.{All-cons, All-tail}
 use Rattle.std.proofs.lemmas.List.Sorted.{All-permutation, length_permutation}
 use Rattle.std.proofs.lemmas.List.Sums.{sum_by-set}
+use Rattle.std.proofs.lemmas.Option.{slice_get_within, get_or_from_slice_get}
 use Rattle.dary_heap.specs.Bag.{IsSameBag}
 use Rattle.dary_heap.specs.declared.shortest_path.Edge.{Edge}
 use Rattle.dary_heap.specs.declared.shortest_path.State.{State}
@@ -28,6 +29,11 @@ module _ (next : State) (waiting grown : List State) (bag : IsSameBag (next ∷ 
 -- the states that wait are at nodes, also once one was taken
 pub waits_less : (taken : State) (waiting rest : List State) (n : ℕ) → IsSameBag waiting (taken ∷ rest) → All (λ state. state.position < n) waiting → All (λ state. state.position < n) rest
 waits_less taken waiting rest n bag there = All-tail (λ state. state.position < n) taken rest (All-permutation (λ state. state.position < n) waiting (taken ∷ rest) bag there)
+
+-- the state taken is at a node
+pub first_within : (n : ℕ) (waiting : List State) (taken : State) → slice_get waiting 0 ≡ Some taken → All (λ state. state.position < n) waiting → taken.position < n
+first_within n waiting taken first there =
+    subst (λ (state : State). state.position < n) (get_or_from_slice_get waiting 0 taken taken first) (there 0 taken (slice_get_within waiting 0 taken first))
 
 -- the next row has the numbers of the next node
 pub row_is : (offsets xs row : List ℕ) (end node : ℕ) → node + 1 ≡ end → row ≡ take (get_or offsets end 0 - get_or offsets (end - 1) 0) (drop (get_or offsets (end - 1) 0) xs) → row ≡ of_node offsets node xs

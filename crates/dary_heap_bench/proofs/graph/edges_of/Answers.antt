@@ -1,4 +1,4 @@
-use Rattle.std.proofs.Common.{◌<◌, All, length, arith}
+use Rattle.std.proofs.Common.{◌<◌, All, length, rules, arith}
 use Rattle.std.proofs.lemmas.List.Elements.{All-push, All-take, All-drop}
 use Rattle.dary_heap_bench.specs.Graph.{nodes}
 use Rattle.dary_heap_bench.proofs.Edges.{ends_within, row_is, told_more}
@@ -24,3 +24,27 @@ returns-clause-listed c = record {
   targets_are = c.loop-node.invariant.ends;
   costs_are = c.loop-node.invariant.costs;
 }
+
+pub loop-node-init : goal.loop-node-init
+loop-node-init c = search rules
+
+pub slice_bounds-row_of-end : goal.slice_bounds-row_of-end
+slice_bounds-row_of-end c = search rules
+
+pub slice_bounds-row_of-count : goal.slice_bounds-row_of-count
+slice_bounds-row_of-count c = search rules
+
+pub slice_bounds-row_of-start : goal.slice_bounds-row_of-start
+slice_bounds-row_of-start c = search rules
+
+pub slice_bounds-row_of-end-in-loop-node : goal.slice_bounds-row_of-end-in-loop-node
+slice_bounds-row_of-end-in-loop-node c = search rules
+
+pub slice_bounds-row_of-start-in-loop-node : goal.slice_bounds-row_of-start-in-loop-node
+slice_bounds-row_of-start-in-loop-node c = search rules
+
+pub row_of-requires : goal.row_of-requires
+row_of-requires c = search rules
+
+pub returns-clause-within : goal.returns-clause-within
+returns-clause-within c = search rules

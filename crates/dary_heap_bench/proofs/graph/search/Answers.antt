@@ -33,3 +33,18 @@ returns-clause-ok c =
       count_is = written.count_is;
       written = written.written;
     }
+
+pub loop-place-init : goal.loop-place-init
+loop-place-init c = search rules
+
+pub bounds-tos-place : goal.bounds-tos-place
+bounds-tos-place c = search rules
+
+pub cheapest-requires-clause-graph : goal.cheapest-requires-clause-graph
+cheapest-requires-clause-graph c = search rules
+
+pub cheapest-requires-clause-from : goal.cheapest-requires-clause-from
+cheapest-requires-clause-from c = search rules
+
+pub returns-clause-err : goal.returns-clause-err
+returns-clause-err c = search rules
