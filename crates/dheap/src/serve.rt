@@ -93,7 +93,7 @@ fn answer_all<R: Read, W: Write>(
     answer_at(alloc, arity, script, output)
 }
 
-/// Runs the commands of a script on a new heap of an arity, 8 if it is none below, and writes the answers.
+/// Runs the commands of a script on a new heap of an arity from 1 to 7, and else of 8, and writes the answers.
 fn answer_at<W: Write>(
     alloc: Global,
     arity: u8,
