@@ -1,8 +1,22 @@
 -- What a bag holds once a value came to it. A bag from which one was taken is read the other way round.
-use Rattle.std.proofs.Common.{◌≡◌, ◌⊎◌, ◌<◌, List, [], ◌∷◌, length, Contains, arith, refl}
-use Rattle.std.proofs.lemmas.List.Sorted.{IsPermutation-sym, Contains-permutation}
+use Rattle.std.proofs.Common.{◌≡◌, ◌⊎◌, ◌<◌, List, [], ◌∷◌, ◌++◌, length, set, IsPermutation, Contains, Some, slice_get, inl, inr, refl, subst, arith}
+use Rattle.std.proofs.lemmas.List.Elements.{Contains-append_right, Contains-append_cases}
+use Rattle.std.proofs.lemmas.List.Sorted.{IsPermutation-sym, IsPermutation-cons, IsPermutation-to_front, Contains-permutation}
 use Rattle.dary_heap.specs.Bag.{IsSameBag}
-use Rattle.dary_heap.proofs.States.{Contains-cases, Contains-first, Contains-later}
+use Rattle.dary_heap.proofs.Fronts.{alone}
+
+-- an item of a list is its first or one of the others
+pub Contains-cases : {X : Type 0} (x : X) (xs : List X) (y : X) → Contains (x ∷ xs) y → (x ≡ y) ⊎ Contains xs y
+Contains-cases x xs y h = elim (Contains-append_cases (x ∷ []) xs y h) [
+  | inl one ↦ inl (alone x y one)
+  | inr later ↦ inr later
+]
+
+pub Contains-first : {X : Type 0} (x : X) (xs : List X) → Contains (x ∷ xs) x
+Contains-first x xs = (0, omega arith, refl)
+
+pub Contains-later : {X : Type 0} (x : X) (xs : List X) (y : X) → Contains xs y → Contains (x ∷ xs) y
+Contains-later x xs y h = Contains-append_right (x ∷ []) xs y h
 
 module _ {X : Type 0} where
   pub holds_none : (x : X) → Contains [] x → ⊥
@@ -20,3 +34,10 @@ module _ {X : Type 0} where
 
   pub came_cases : (x : X) (xs ys : List X) (y : X) → IsSameBag (x ∷ xs) ys → Contains ys y → (x ≡ y) ⊎ Contains xs y
   came_cases x xs ys y bag h = Contains-cases x xs y (Contains-permutation ys (x ∷ xs) y (IsPermutation-sym (x ∷ xs) ys bag) h)
+
+-- the last item goes to the first place, whose item is taken out
+pub put_first : {T : Type 0} (xs : List T) (x m : T) → slice_get xs 0 ≡ Some m → IsPermutation (xs ++ x ∷ []) (m ∷ set xs 0 x)
+put_first [] x m first = cc
+put_first (y ∷ ys) x m first =
+    let is : y ≡ m = cc in
+    subst (λ n. IsPermutation (y ∷ ys ++ x ∷ []) (n ∷ x ∷ ys)) is (IsPermutation-cons y (ys ++ x ∷ []) (x ∷ ys) (IsPermutation-to_front ys x))

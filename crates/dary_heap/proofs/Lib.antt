@@ -19,6 +19,7 @@ pub mod Written
 pub mod Loans
 pub mod Lowering
 pub mod Tail
+pub mod Uncounted
 pub mod Filtering
 pub mod Extending
 pub mod ServingMany

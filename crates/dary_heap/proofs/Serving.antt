@@ -16,6 +16,7 @@ use Rattle.dary_heap.specs.Run.{IsServed, Serves, room, sure_after}
 use Rattle.dary_heap.specs.State.{front, front_with}
 use Rattle.dary_heap.proofs.Fronts.{alone, ordered_state, same_state}
 use Rattle.dary_heap.proofs.Order.{read}
+use Rattle.dary_heap.proofs.Uncounted.{stays}
 
 -- a list without items
 pub empty : {X : Type 0} (xs : List X) → length xs ≤ 0 → xs ≡ []
@@ -29,9 +30,6 @@ added xs ys x h y in' = Contains-permutation _ _ y (IsPermutation-sym _ _ (IsPer
 -- the items of a bag from which m was taken
 pub rest : {X : Type 0} (xs ys : List X) (m : X) → IsPermutation xs (m ∷ ys) → (y : X) → Contains ys y → Contains (xs ++ []) y
 rest xs ys m h y in' = Contains-append_left xs [] y (Contains-permutation _ _ y (IsPermutation-sym _ _ h) (Contains-append_right (m ∷ []) ys y in'))
-
-pub stays : (n bound : ℕ) → RisesWithin n n bound
-stays n bound = record { rises = omega arith; within = omega arith }
 
 module _ {X P : Type 0} {cmp : X → X → Ordering} {answers : P → X → Bool → P → Type 0} {D : ℕ} where
   -- a step after which the items are those before

@@ -15,11 +15,12 @@ use Rattle.dary_heap.specs.Loan.{IsExceeded}
 use Rattle.dary_heap.specs.Machine.{Act, Write, Refresh, End, PutBack, TakeOut, Seen, Old, Changed, Loan, Loaned, Refused, Acts}
 use Rattle.dary_heap.specs.Run.{Serves}
 use Rattle.dary_heap.specs.State.{IsState, front}
+use Rattle.dary_heap.proofs.Bags.{Contains-cases, Contains-first, Contains-later}
 use Rattle.dary_heap.proofs.Cancelling.{IsPermutation-uncons}
 use Rattle.dary_heap.proofs.Depth.{times_depth-later}
 use Rattle.dary_heap.proofs.Fronts.{ordered_state, same_state}
 use Rattle.dary_heap.proofs.Serving.{empty, kept}
-use Rattle.dary_heap.proofs.States.{Contains-cases, Contains-first, Contains-later, HasGreater-same_bag}
+use Rattle.dary_heap.proofs.States.{HasGreater-same_bag}
 
 module _ {X P : Type 0} (cmp : X → X → Ordering) (answers : P → X → Bool → P → Type 0) where
   -- of the rest the acts read its bag alone

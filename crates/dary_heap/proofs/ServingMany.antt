@@ -24,8 +24,9 @@ use Rattle.dary_heap.specs.Run.{Serves}
 use Rattle.dary_heap.specs.State.{IsJoined, front}
 use Rattle.dary_heap.proofs.Filtering.{few_picked}
 use Rattle.dary_heap.proofs.Fronts.{ordered_state, same_state}
-use Rattle.dary_heap.proofs.Order.{IsAtMost-none, read}
-use Rattle.dary_heap.proofs.Serving.{Told, empty, rest, stays, told}
+use Rattle.dary_heap.proofs.Order.{none_ordered, read}
+use Rattle.dary_heap.proofs.Serving.{Told, empty, rest, told}
+use Rattle.dary_heap.proofs.Uncounted.{stays}
 
 -- taking in fewer items costs no more
 fewer : (D n j k : ℕ) (b c : Bool) → (j == 0) ≡ b → (k == 0) ≡ c → j ≤ k → (if b then 0 else max (build_bound D n) (j * depth D (n - 1))) ≤ (if c then 0 else max (build_bound D n) (k * depth D (n - 1)))
@@ -45,10 +46,6 @@ Contains-picked (true ∷ bs) (y ∷ xs) x in' = elim (Contains-append_cases (y 
   | inr later ↦ Contains-append_right (y ∷ []) xs x (Contains-picked bs xs x later)
 ]
 Contains-picked (false ∷ bs) (y ∷ xs) x in' = Contains-append_right (y ∷ []) xs x (Contains-picked bs xs x in')
-
--- no items are heap ordered
-pub none_ordered : {X : Type 0} {cmp : X → X → Ordering} {D : ℕ} (xs : List X) → xs ≡ [] → IsHeapOrdered cmp D xs
-none_ordered {cmp = cmp} {D = D} xs none = subst (IsHeapOrdered cmp D) (sym none) (record { below_parent = λ i pos. IsAtMost-none _ _ refl })
 
 -- items that come in behind others, all of them or a beginning
 front_of_both : {X : Type 0} (xs ys all left : List X) (x : X) → all ≡ ys ++ left → Contains (xs ++ ys) x → Contains (xs ++ (all ++ [])) x

@@ -1,5 +1,5 @@
 use Rattle.std.proofs.Common.{length, ap, arith}
-use Rattle.dary_heap.proofs.ServingMany.{none_ordered}
+use Rattle.dary_heap.proofs.Order.{none_ordered}
 use Rattle.dary_heap.proofs.run.clear.Goals as goal
 
 pub returns : goal.returns

@@ -3,7 +3,7 @@ use Rattle.std.specs.declared.alloc.Global.{Global}
 use Rattle.dary_heap.specs.Contents.{Contents}
 use Rattle.dary_heap.specs.Drain.{drain_rest}
 use Rattle.dary_heap.proofs.Iterating.{runs, runs_back}
-use Rattle.dary_heap.proofs.ServingMany.{none_ordered}
+use Rattle.dary_heap.proofs.Order.{none_ordered}
 use Rattle.dary_heap.proofs.Written.{none_written, same_contents}
 use Rattle.dary_heap.proofs.heap.DaryHeap.drain.Goals as goal
 

@@ -4,7 +4,7 @@ use Rattle.std.proofs.lemmas.List.Sorted.{IsPermutation-refl, length_permutation
 use Rattle.dary_heap.proofs.BelowRoot.{below_root}
 use Rattle.dary_heap.proofs.Fronts.{ordered_state}
 use Rattle.dary_heap.proofs.Loans.{lone_uncounted, lone_unexceeded, none_exceeds, sunk_moved, sunk_unmoved}
-use Rattle.dary_heap.proofs.Serving.{stays}
+use Rattle.dary_heap.proofs.Uncounted.{stays}
 use Rattle.dary_heap.proofs.Written.{same_contents, written_back}
 use Rattle.dary_heap.proofs.peek_mut.methods.PeekMut+T+D.refresh.Goals as goal
 
