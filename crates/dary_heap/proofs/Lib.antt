@@ -25,6 +25,7 @@ pub mod Extending
 pub mod ServingMany
 pub mod ServingDrains
 pub mod ServingLoan
+pub mod ServingPlain
 pub mod Fronts
 pub mod Cancelling
 pub mod States

@@ -78,7 +78,7 @@ module _ {X P : Type 0} {cmp : X → X → Ordering} (answers : P → X → Bool
   both_empty one other p q = subst (IsSameBag one) (p ∙ sym q) (IsPermutation-refl one)
 
   -- a pop from each
-  popped : (one other : List X) (x y : X) (new new' : List X) → AreAlike cmp values one other → Pops cmp answers one x new → Pops cmp answers other y new' → (x ≡ y) × AreAlike cmp values new new'
+  popped : (one other : List X) (x y : X) (new new' : List X) → AreAlike cmp values one other → Pops cmp one x new → Pops cmp other y new' → (x ≡ y) × AreAlike cmp values new new'
   popped one other x y new new' alike h k =
       let same = same_front one other x y alike h.0 k.0 in (
         same,
@@ -90,7 +90,7 @@ module _ {X P : Type 0} {cmp : X → X → Ordering} (answers : P → X → Bool
         },
       )
 
-  popped_in_turn : (one other : List X) (k : ℕ) (taken taken' : List X) → AreAlike cmp values one other → PopsInTurn cmp answers one k taken → PopsInTurn cmp answers other k taken' → taken ≡ taken'
+  popped_in_turn : (one other : List X) (k : ℕ) (taken taken' : List X) → AreAlike cmp values one other → PopsInTurn cmp one k taken → PopsInTurn cmp other k taken' → taken ≡ taken'
   popped_in_turn one other zero taken taken' alike h k = h ∙ sym k
   popped_in_turn one other (suc n) [] [] alike h k = refl
   popped_in_turn one other (suc n) [] (y ∷ taken') alike h k = absurd (none_alike one other y alike.bag h k.1.0)
@@ -108,7 +108,7 @@ module _ {X P : Type 0} {cmp : X → X → Ordering} (answers : P → X → Bool
     rest : IsSameBag left left'
     among : IsAmong values (last ∷ left)
 
-  acted : (held held' : X) (rest rest' : List X) (acts : List (Act X)) (seen seen' : List (Seen X)) (last last' : X) (left left' : List X) → held ≡ held' → IsSameBag rest rest' → IsAmong values (held ∷ rest) → IsAmong values (written acts) → Acts cmp answers held rest acts seen last left → Acts cmp answers held' rest' acts seen' last' left' → LoansAlike seen seen' last last' left left'
+  acted : (held held' : X) (rest rest' : List X) (acts : List (Act X)) (seen seen' : List (Seen X)) (last last' : X) (left left' : List X) → held ≡ held' → IsSameBag rest rest' → IsAmong values (held ∷ rest) → IsAmong values (written acts) → Acts cmp held rest acts seen last left → Acts cmp held' rest' acts seen' last' left' → LoansAlike seen seen' last last' left left'
   acted held held' rest rest' [] [] [] last last' left left' e same among wrote h k = record {
     told = refl;
     held = h.0 ∙ e ∙ sym k.0;
@@ -167,7 +167,7 @@ module _ {X P : Type 0} {cmp : X → X → Ordering} (answers : P → X → Bool
   clear_says old Done new step = (refl, step)
   clear_says old reply new step = absurd step
 
-  drain_says : (k : ℕ) (old : List X) (reply : Reply X) (new : List X) → IsUnrefused reply → Step cmp answers old (DrainSorted k) reply new → (taken : List X) × (reply ≡ Taken taken) × PopsInTurn cmp answers old k taken × (new ≡ [])
+  drain_says : (k : ℕ) (old : List X) (reply : Reply X) (new : List X) → IsUnrefused reply → Step cmp answers old (DrainSorted k) reply new → (taken : List X) × (reply ≡ Taken taken) × PopsInTurn cmp old k taken × (new ≡ [])
   drain_says k old (Taken taken) new fine step = (taken, refl, step.0, step.1)
   drain_says k old Refused new fine step = absurd fine
   drain_says k old reply new fine step = absurd step
@@ -194,7 +194,7 @@ module _ {X P : Type 0} {cmp : X → X → Ordering} (answers : P → X → Bool
   pop_alike old old' (Popped given) reply' new new' alike h k = absurd k
   pop_alike old old' reply reply' new new' alike h k = absurd h
 
-  ended : (last last' : X) (left left' : List X) (end : End) (popped popped' : Option X) (new new' : List X) → last ≡ last' → IsSameBag left left' → IsAmong values (last ∷ left) → Ends cmp answers last left end popped new → Ends cmp answers last' left' end popped' new' → (popped ≡ popped') × IsSameBag new new' × IsAmong values new
+  ended : (last last' : X) (left left' : List X) (end : End) (popped popped' : Option X) (new new' : List X) → last ≡ last' → IsSameBag left left' → IsAmong values (last ∷ left) → Ends cmp last left end popped new → Ends cmp last' left' end popped' new' → (popped ≡ popped') × IsSameBag new new' × IsAmong values new
   ended last last' left left' PutBack None None new new' e same among h k =
       (refl, through (last ∷ left) (last' ∷ left') new new' (subst (λ v. IsSameBag (last ∷ left) (v ∷ left')) e (IsPermutation-cons last left left' same)) h.0 k.0, IsAmong-same values (last ∷ left) new h.0 among)
   ended last last' left left' PutBack None (Some y) new new' e same among h k = absurd k

@@ -32,19 +32,19 @@ module _ {X P : Type 0} (cmp : X → X → Ordering) (answers : P → X → Bool
     first = λ e. to.first ∙ h.first e ∙ sym from.first;
   }
 
-  popped : (m : X) → Pops cmp answers old m new → Pops cmp answers old' m new'
+  popped : (m : X) → Pops cmp old m new → Pops cmp old' m new'
   popped m h = (from.first ∙ h.0, IsPermutation-trans _ _ _ (IsPermutation-sym _ _ from.bag) (IsPermutation-trans _ _ _ h.1 (IsPermutation-cons m new new' to.bag)), IsState-same new new' h.2 to)
 
   asked : (p : P) (answer : Bool) → MayAnswer cmp answers old p answer → MayAnswer cmp answers old' p answer
   asked p answer h = (h.0, from.first ∙ h.1, h.2)
 
-  ended : (last : X) (left : List X) (end : End) (given : Option X) → Ends cmp answers last left end given new → Ends cmp answers last left end given new'
+  ended : (last : X) (left : List X) (end : End) (given : Option X) → Ends cmp last left end given new → Ends cmp last left end given new'
   ended last left PutBack None h = (IsPermutation-trans _ _ _ h.0 to.bag, IsState-same new new' h.1 to, λ none. to.first ∙ h.2 none)
   ended last left TakeOut (Some v) h = (h.0, IsPermutation-trans _ _ _ h.1 to.bag, IsState-same new new' h.2 to)
   ended last left end given h = absurd h
 
 module _ {X P : Type 0} (cmp : X → X → Ordering) (answers : P → X → Bool → P → Type 0) where
-  in_turn : (old old' : List X) (k : ℕ) (taken : List X) → IsSameState old old' → PopsInTurn cmp answers old k taken → PopsInTurn cmp answers old' k taken
+  in_turn : (old old' : List X) (k : ℕ) (taken : List X) → IsSameState old old' → PopsInTurn cmp old k taken → PopsInTurn cmp old' k taken
   in_turn old old' zero taken from h = h
   in_turn old old' (suc k) [] from h = none old old' from h
   in_turn old old' (suc k) (m ∷ taken) from h = (h.0, popped cmp answers old old' h.0 h.0 from (same_state _ _ refl) m h.1, h.2)

@@ -26,26 +26,26 @@ first_given (Some x) old new h some = refl
 pub given_first : {X : Type 0} (r : Option X) (x : X) (old new : List X) → r ≡ Some x → MatchOption r ((old ≡ []) × (new ≡ [])) (λ y. old ≡ y ∷ new) → old ≡ x ∷ new
 given_first r x old new is h = rw is at h
 
-module _ {X P : Type 0} (cmp : X → X → Ordering) (answers : P → X → Bool → P → Type 0) where
+module _ {X : Type 0} (cmp : X → X → Ordering) where
   -- pops give these items one after another on the way from one state to another
   abbrev pub PopsThrough : List X → List X → List X → Type 0
   PopsThrough old [] new = new ≡ old
-  PopsThrough old (m ∷ taken) new = (mid : List X) × Pops cmp answers old m mid × PopsThrough mid taken new
+  PopsThrough old (m ∷ taken) new = (mid : List X) × Pops cmp old m mid × PopsThrough mid taken new
 
-  pub PopsThrough-more : (old taken mid : List X) (m : X) (new : List X) → PopsThrough old taken mid → Pops cmp answers mid m new → PopsThrough old (taken ++ m ∷ []) new
-  PopsThrough-more old [] mid m new h pop = (new, subst (λ state. Pops cmp answers state m new) h pop, refl)
+  pub PopsThrough-more : (old taken mid : List X) (m : X) (new : List X) → PopsThrough old taken mid → Pops cmp mid m new → PopsThrough old (taken ++ m ∷ []) new
+  PopsThrough-more old [] mid m new h pop = (new, subst (λ state. Pops cmp state m new) h pop, refl)
   PopsThrough-more old (x ∷ taken) mid m new h pop = (h.0, h.1, PopsThrough-more h.0 taken mid m new h.2 pop)
 
   -- as many as were wanted, or all
-  PopsThrough-in_turn : (k : ℕ) (old taken new : List X) → PopsThrough old taken new → length taken ≤ k → (length taken < k → new ≡ []) → PopsInTurn cmp answers old k taken
+  PopsThrough-in_turn : (k : ℕ) (old taken new : List X) → PopsThrough old taken new → length taken ≤ k → (length taken < k → new ≡ []) → PopsInTurn cmp old k taken
   PopsThrough-in_turn zero old [] new h few all = refl
   PopsThrough-in_turn zero old (m ∷ taken) new h few all = absurd (omega arith)
   PopsThrough-in_turn (suc k) old [] new h few all = sym h ∙ all (omega arith)
   PopsThrough-in_turn (suc k) old (m ∷ taken) new h few all = (h.0, h.1, PopsThrough-in_turn k h.0 taken new h.2 (omega arith) (λ fewer. all (omega arith)))
 
-module _ {X P : Type 0} {cmp : X → X → Ordering} {D : ℕ} where
-  pub IsPop-step : IsTotalOrder cmp → (answers : P → X → Bool → P → Type 0) (old new : Contents X) (m : X) → IsPop cmp D old (Some m) new → Pops cmp answers old.items m new.items
-  IsPop-step total answers old new m pop = (sym pop.first, pop.bag, ordered_state total D new.items pop.ordered)
+module _ {X : Type 0} {cmp : X → X → Ordering} {D : ℕ} where
+  pub IsPop-step : IsTotalOrder cmp → (old new : Contents X) (m : X) → IsPop cmp D old (Some m) new → Pops cmp old.items m new.items
+  IsPop-step total old new m pop = (sym pop.first, pop.bag, ordered_state total D new.items pop.ordered)
 
 -- where there is an item a pop gives one
 pub popped_some : {X : Type 0} {cmp : X → X → Ordering} {D : ℕ} (old new : Contents X) (r : Option X) → IsPop cmp D old r new → 0 < length old.items → IsSome r
@@ -77,9 +77,9 @@ module _ {X P : Type 0} {cmp : X → X → Ordering} {answers : P → X → Bool
   }
 
   -- what the iterator leaves behind its reference when it is dropped is what the heap is then
-  pub drained_sorted : (old new end : Contents X) (k : ℕ) (taken left : List X) → new ≡ end → PopsThrough cmp answers old.items taken left → length taken ≡ min k (length old.items) → length taken + length left ≡ length old.items → end.items ≡ [] → RisesWithin old.comparisons end.comparisons (pops_bound D (length old.items)) → Serves cmp answers D old (DrainSorted k) (Taken taken) new
+  pub drained_sorted : (old new end : Contents X) (k : ℕ) (taken left : List X) → new ≡ end → PopsThrough cmp old.items taken left → length taken ≡ min k (length old.items) → length taken + length left ≡ length old.items → end.items ≡ [] → RisesWithin old.comparisons end.comparisons (pops_bound D (length old.items)) → Serves cmp answers D old (DrainSorted k) (Taken taken) new
   drained_sorted old new end k taken left back through long all none counted = rw back record {
-    step = (PopsThrough-in_turn cmp answers k old.items taken left through (omega (arith, long)) (λ fewer. empty left (omega (arith, long, all))), none);
+    step = (PopsThrough-in_turn cmp k old.items taken left through (omega (arith, long)) (λ fewer. empty left (omega (arith, long, all))), none);
     charged = counted;
     served = tt;
     sure = omega arith;

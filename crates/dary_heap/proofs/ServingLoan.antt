@@ -6,7 +6,7 @@ use Rattle.std.proofs.Math.Nat.{suc-mul}
 use Rattle.std.specs.Bool.{OnFalse}
 use Rattle.std.specs.Cmp.{IsTotalOrder}
 use Rattle.std.specs.declared.cmp.Ordering.{Ordering}
-use Rattle.dary_heap.specs.Asking.{items_in, written}
+use Rattle.dary_heap.specs.Asking.{written}
 use Rattle.dary_heap.specs.Bag.{IsSameBag, IsGreatest-same_bag}
 use Rattle.dary_heap.specs.Bounds.{RisesWithin, refreshes, pop_bound, sink_bound}
 use Rattle.dary_heap.specs.Contents.{Contents}
@@ -22,9 +22,9 @@ use Rattle.dary_heap.proofs.Fronts.{ordered_state, same_state}
 use Rattle.dary_heap.proofs.Serving.{empty, kept}
 use Rattle.dary_heap.proofs.States.{HasGreater-same_bag}
 
-module _ {X P : Type 0} (cmp : X → X → Ordering) (answers : P → X → Bool → P → Type 0) where
+module _ {X : Type 0} (cmp : X → X → Ordering) where
   -- of the rest the acts read its bag alone
-  Acts-same : (held : X) (rest left : List X) (acts : List (Act X)) (seen : List (Seen X)) (last : X) (end : List X) → IsSameBag rest left → Acts cmp answers held left acts seen last end → Acts cmp answers held rest acts seen last end
+  Acts-same : (held : X) (rest left : List X) (acts : List (Act X)) (seen : List (Seen X)) (last : X) (end : List X) → IsSameBag rest left → Acts cmp held left acts seen last end → Acts cmp held rest acts seen last end
   Acts-same held rest left [] [] last end same h = (h.0, IsPermutation-trans _ _ _ same h.1)
   Acts-same held rest left (Write x ∷ acts) (Old y ∷ seen) last end same h = (h.0, Acts-same x rest left acts seen last end same h.1)
   Acts-same held rest left (Refresh ∷ acts) (Changed true ∷ seen) last end same h = (
@@ -41,15 +41,15 @@ module _ {X P : Type 0} (cmp : X → X → Ordering) (answers : P → X → Bool
   Acts-same held rest left acts seen last end same h = absurd h
 
   -- one act more
-  Acts-more : (held : X) (rest : List X) (acts : List (Act X)) (seen : List (Seen X)) (mid : X) (left : List X) (act : Act X) (sight : Seen X) (last : X) (end : List X) → Acts cmp answers held rest acts seen mid left → Acts cmp answers mid left (act ∷ []) (sight ∷ []) last end → Acts cmp answers held rest (acts ++ act ∷ []) (seen ++ sight ∷ []) last end
-  Acts-more held rest [] [] mid left act sight last end h more = Acts-same held rest left (act ∷ []) (sight ∷ []) last end h.1 (subst (λ v. Acts cmp answers v left (act ∷ []) (sight ∷ []) last end) h.0 more)
+  Acts-more : (held : X) (rest : List X) (acts : List (Act X)) (seen : List (Seen X)) (mid : X) (left : List X) (act : Act X) (sight : Seen X) (last : X) (end : List X) → Acts cmp held rest acts seen mid left → Acts cmp mid left (act ∷ []) (sight ∷ []) last end → Acts cmp held rest (acts ++ act ∷ []) (seen ++ sight ∷ []) last end
+  Acts-more held rest [] [] mid left act sight last end h more = Acts-same held rest left (act ∷ []) (sight ∷ []) last end h.1 (subst (λ v. Acts cmp v left (act ∷ []) (sight ∷ []) last end) h.0 more)
   Acts-more held rest (Write x ∷ acts) (Old y ∷ seen) mid left act sight last end h more = (h.0, Acts-more x rest acts seen mid left act sight last end h.1 more)
   Acts-more held rest (Refresh ∷ acts) (Changed true ∷ seen) mid left act sight last end h more = (h.0, (h.1.0, h.1.1, h.1.2, h.1.3, Acts-more h.1.0 h.1.1 acts seen mid left act sight last end h.1.4 more))
   Acts-more held rest (Refresh ∷ acts) (Changed false ∷ seen) mid left act sight last end h more = (h.0, Acts-more held rest acts seen mid left act sight last end h.1 more)
   Acts-more held rest acts seen mid left act sight last end h more = absurd h
 
   -- what is held and what is left were there or were written
-  Acts-among : (held : X) (rest : List X) (acts : List (Act X)) (seen : List (Seen X)) (last : X) (left : List X) → Acts cmp answers held rest acts seen last left → (x : X) → Contains (last ∷ left) x → Contains ((held ∷ rest) ++ written acts) x
+  Acts-among : (held : X) (rest : List X) (acts : List (Act X)) (seen : List (Seen X)) (last : X) (left : List X) → Acts cmp held rest acts seen last left → (x : X) → Contains (last ∷ left) x → Contains ((held ∷ rest) ++ written acts) x
   Acts-among held rest [] [] last left h x in' =
       let first : last ≡ held = h.0 in
       Contains-append_left (held ∷ rest) [] x (Contains-permutation (held ∷ left) (held ∷ rest) x (IsPermutation-cons held left rest (IsPermutation-sym _ _ h.1)) (subst (λ v. Contains (v ∷ left) x) first in'))
@@ -76,7 +76,7 @@ module _ {X P : Type 0} (cmp : X → X → Ordering) (answers : P → X → Bool
     pub last : X
     pub left : List X
     pub from : begun ≡ first ∷ rest
-    pub acted : Acts cmp answers first rest acts seen last left
+    pub acted : Acts cmp first rest acts seen last left
     pub to : now ≡ last ∷ left
 
   pub IsActed-begins : (xs : List X) → 0 < length xs → IsActed xs [] [] xs
@@ -142,17 +142,17 @@ module _ {X : Type 0} where
   pub cost-refresh : (acts : List (Act X)) (each : ℕ) → refreshes (acts ++ Refresh ∷ []) * each ≡ refreshes acts * each + each
   cost-refresh acts each = ap (λ n. n * each) (refreshes-refresh acts) ∙ cost-next (refreshes acts) each
 
-module _ {X P : Type 0} (cmp : X → X → Ordering) (answers : P → X → Bool → P → Type 0) where
+module _ {X : Type 0} (cmp : X → X → Ordering) where
   -- what the heap and the acts held
-  brought : (items : List X) (acts : List (Act X)) (seen : List (Seen X)) (now : List X) (end : End) → IsActed cmp answers items acts seen now → (x : X) → Contains now x → Contains (items ++ items_in {P = P} (Loan acts end ∷ [])) x
-  brought items acts seen now end h x in' =
-      let there = Acts-among cmp answers h.first h.rest acts seen h.last h.left h.acted x (subst (λ xs. Contains xs x) h.to in') in
+  brought : (items : List X) (acts : List (Act X)) (seen : List (Seen X)) (now : List X) → IsActed cmp items acts seen now → (x : X) → Contains now x → Contains (items ++ (written acts ++ [])) x
+  brought items acts seen now h x in' =
+      let there = Acts-among cmp h.first h.rest acts seen h.last h.left h.acted x (subst (λ xs. Contains xs x) h.to in') in
       subst (λ xs. Contains (xs ++ (written acts ++ [])) x) (sym h.from) (subst (λ xs. Contains ((h.first ∷ h.rest) ++ xs) x) (sym (append-nil (written acts))) there)
 
-module _ {X P : Type 0} (cmp : X → X → Ordering) (answers : P → X → Bool → P → Type 0) (D : ℕ) where
+module _ {X : Type 0} (cmp : X → X → Ordering) (D : ℕ) where
   -- from the heap at the start through the loan at its end to what that leaves
   pub record IsLoan (old mid end : Contents X) (acts : List (Act X)) (seen : List (Seen X)) (last_cost : ℕ) : Type 0 where
-    pub acted : IsActed cmp answers old.items acts seen mid.items
+    pub acted : IsActed cmp old.items acts seen mid.items
     pub len : length mid.items ≡ length old.items
     pub rises : old.comparisons ≤ mid.comparisons
     pub counted : mid.comparisons ≤ old.comparisons + refreshes acts * sink_bound D (length old.items)
@@ -168,7 +168,7 @@ module _ {X P : Type 0} {cmp : X → X → Ordering} {answers : P → X → Bool
   loan_refused old acts end some wanted ordered = kept old old (Loan acts end) Refused refl refl ordered ((λ e. some (ap length e)), (λ e. wanted (ap length e)), same_state _ _ refl) tt (omega arith)
 
   -- what the loan leaves behind its reference is what the heap is then
-  pub put_back : IsTotalOrder cmp → (old mid end new : Contents X) (acts : List (Act X)) (seen : List (Seen X)) → new ≡ end → IsLoan cmp answers D old mid end acts seen (sink_bound D (length mid.items)) → IsSameBag mid.items end.items → ((IsExceeded cmp mid.items → ⊥) → front end.items ≡ front mid.items) → Serves cmp answers D old (Loan acts PutBack) (Loaned (Some (seen, None))) new
+  pub put_back : IsTotalOrder cmp → (old mid end new : Contents X) (acts : List (Act X)) (seen : List (Seen X)) → new ≡ end → IsLoan cmp D old mid end acts seen (sink_bound D (length mid.items)) → IsSameBag mid.items end.items → ((IsExceeded cmp mid.items → ⊥) → front end.items ≡ front mid.items) → Serves cmp answers D old (Loan acts PutBack) (Loaned (Some (seen, None))) new
   put_back total old mid end new acts seen back h bag first =
       let a = h.acted in
       rw back record {
@@ -177,10 +177,10 @@ module _ {X P : Type 0} {cmp : X → X → Ordering} {answers : P → X → Bool
         served = tt;
         sure = omega arith;
         ordered = h.ordered;
-        among = λ x in'. brought cmp answers old.items acts seen mid.items PutBack a x (Contains-permutation end.items mid.items x (IsPermutation-sym _ _ bag) in');
+        among = λ x in'. brought cmp old.items acts seen mid.items a x (Contains-permutation end.items mid.items x (IsPermutation-sym _ _ bag) in');
       }
 
-  pub taken_out : IsTotalOrder cmp → (old mid end new : Contents X) (acts : List (Act X)) (seen : List (Seen X)) (item : X) → new ≡ end → IsLoan cmp answers D old mid end acts seen (pop_bound D (length mid.items)) → front mid.items ≡ Some item → IsSameBag mid.items (item ∷ end.items) → Serves cmp answers D old (Loan acts TakeOut) (Loaned (Some (seen, Some item))) new
+  pub taken_out : IsTotalOrder cmp → (old mid end new : Contents X) (acts : List (Act X)) (seen : List (Seen X)) (item : X) → new ≡ end → IsLoan cmp D old mid end acts seen (pop_bound D (length mid.items)) → front mid.items ≡ Some item → IsSameBag mid.items (item ∷ end.items) → Serves cmp answers D old (Loan acts TakeOut) (Loaned (Some (seen, Some item))) new
   taken_out total old mid end new acts seen item back h first bag =
       let a = h.acted in
       let held : Some a.last ≡ Some item = sym (ap front a.to) ∙ first in
@@ -193,5 +193,5 @@ module _ {X P : Type 0} {cmp : X → X → Ordering} {answers : P → X → Bool
         served = tt;
         sure = omega arith;
         ordered = h.ordered;
-        among = λ x in'. brought cmp answers old.items acts seen mid.items TakeOut a x (Contains-permutation (item ∷ end.items) mid.items x (IsPermutation-sym _ _ bag) (Contains-later item end.items x in'));
+        among = λ x in'. brought cmp old.items acts seen mid.items a x (Contains-permutation (item ∷ end.items) mid.items x (IsPermutation-sym _ _ bag) (Contains-later item end.items x in'));
       }

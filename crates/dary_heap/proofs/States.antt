@@ -64,7 +64,7 @@ module _ {X : Type 0} {cmp : X → X → Ordering} (total : IsTotalOrder cmp) wh
   front_with-greatest (f ∷ old) x h = by_test old x f (h.greatest f refl) (is_gt (cmp x f)) refl
 
 module _ {X P : Type 0} {cmp : X → X → Ordering} (answers : P → X → Bool → P → Type 0) (total : IsTotalOrder cmp) where
-  Ends-state : (last : X) (left : List X) (end : End) (popped : Option X) (new : List X) → Ends cmp answers last left end popped new → IsState cmp new
+  Ends-state : (last : X) (left : List X) (end : End) (popped : Option X) (new : List X) → Ends cmp last left end popped new → IsState cmp new
   Ends-state last left PutBack None new h = h.1
   Ends-state last left TakeOut (Some v) new h = h.2
   Ends-state last left end popped new h = absurd h

@@ -49,12 +49,7 @@ pub data Reply (T : Type 0) : Type 0 where
   Taken : List T → Reply T
   Loaned : Option (List (Seen T) × Option T) → Reply T
 
--- `answers p x a q`: the predicate p, called on x, may return a and be q from then on
-module _ {T P : Type 0} (cmp : T → T → Ordering) (answers : P → T → Bool → P → Type 0) where
-  -- p, asked once about the front, may give this answer
-  abbrev pub MayAnswer : List T → P → Bool → Type 0
-  MayAnswer state p answer = (f : T) × (front state ≡ Some f) × ((after : P) × answers p f answer after)
-
+module _ {T : Type 0} (cmp : T → T → Ordering) where
   -- m is the front of old, and new is the state without it: its bag is the rest, its front is any
   abbrev pub Pops : List T → T → List T → Type 0
   Pops old m new = (front old ≡ Some m) × IsSameBag old (m ∷ new) × IsState cmp new
@@ -82,16 +77,22 @@ module _ {T P : Type 0} (cmp : T → T → Ordering) (answers : P → T → Bool
   Ends last left TakeOut (Some v) new = (v ≡ last) × IsSameBag left new × IsState cmp new
   Ends last left end popped new = ⊥
 
+-- `answers p x a q`: the predicate p, called on x, may return a and be q from then on
+module _ {T P : Type 0} (cmp : T → T → Ordering) (answers : P → T → Bool → P → Type 0) where
+  -- p, asked once about the front, may give this answer
+  abbrev pub MayAnswer : List T → P → Bool → Type 0
+  MayAnswer state p answer = (f : T) × (front state ≡ Some f) × ((after : P) × answers p f answer after)
+
   -- from the state old, the machine may give this reply to the command and leave the state new
   abbrev pub Step : List T → Command T P → Reply T → List T → Type 0
   Step old (Push x) Pushed new = IsSameBag (x ∷ old) new × (front new ≡ Some (front_with cmp x (front old)))
   Step old (Push x) (PushRefused y) new = (y ≡ x) × IsSameState old new
   Step old Pop (Popped None) new = (old ≡ []) × (new ≡ [])
-  Step old Pop (Popped (Some m)) new = Pops old m new
+  Step old Pop (Popped (Some m)) new = Pops cmp old m new
   Step old (Ask p) (Asked None) new = (old ≡ []) × (new ≡ [])
   Step old (Ask p) (Asked (Some answer)) new = MayAnswer old p answer × IsSameState old new
   Step old (PopIf p) (Popped None) new = ((old ≡ []) × (new ≡ [])) ⊎ (MayAnswer old p false × IsSameState old new)
-  Step old (PopIf p) (Popped (Some m)) new = Pops old m new × ((after : P) × answers p m true after)
+  Step old (PopIf p) (Popped (Some m)) new = Pops cmp old m new × ((after : P) × answers p m true after)
   Step old Len (Size n) new = (n ≡ length old) × IsSameState old new
   Step old (Reserve n) Done new = IsSameState old new
   Step old (Reserve n) Refused new = IsSameState old new
@@ -108,12 +109,12 @@ module _ {T P : Type 0} (cmp : T → T → Ordering) (answers : P → T → Bool
   Step old Clear Done new = new ≡ []
   Step old (Drain k) (Taken taken) new = ((listing : List T) × IsSameState old listing × (taken ≡ take k listing)) × (new ≡ [])
   Step old (Drain k) Refused new = (old ≢ []) × (k ≢ 0) × IsSameState old new
-  Step old (DrainSorted k) (Taken taken) new = PopsInTurn old k taken × (new ≡ [])
+  Step old (DrainSorted k) (Taken taken) new = PopsInTurn cmp old k taken × (new ≡ [])
   Step old (DrainSorted k) Refused new = (old ≢ []) × (k ≢ 0) × IsSameState old new
   Step old (Loan acts end) (Loaned None) new = (old ≡ []) × (new ≡ [])
   Step old (Loan acts end) (Loaned (Some told)) new =
       (m : T) × (rest : List T) × (last : T) × (left : List T)
-      × (front old ≡ Some m) × IsSameBag old (m ∷ rest) × Acts m rest acts told.0 last left × Ends last left end told.1 new
+      × (front old ≡ Some m) × IsSameBag old (m ∷ rest) × Acts cmp m rest acts told.0 last left × Ends cmp last left end told.1 new
   Step old (Loan acts end) Refused new = (old ≢ []) × (acts ≢ []) × IsSameState old new
   -- no other reply is given
   Step old command reply new = ⊥

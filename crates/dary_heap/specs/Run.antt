@@ -64,3 +64,7 @@ module _ {T P : Type 0} (cmp : T → T → Ordering) (answers : P → T → Bool
     pub ordered : IsHeapOrdered cmp D new.items
     -- its items come from the heap and the command
     pub among : (x : T) → Contains new.items x → Contains (old.items ++ items_in (command ∷ [])) x
+
+-- a heap gave this reply to this command, which holds no predicate
+abbrev pub ServesPlain : {T : Type 0} → (T → T → Ordering) → ℕ → Contents T → Command T ⊥ → Reply T → Contents T → Type 0
+ServesPlain cmp D old command reply new = Serves cmp (λ p x answer after. ⊥) D old command reply new

@@ -164,7 +164,8 @@ impl<T: Ord, const D: usize> DaryHeap<T, D> {
     ///
     /// *O*(1), without a comparison.
     pub fn len(&self) -> usize
-        ensures { result ≡ length self.now.items }
+        ensures len { result ≡ length self.now.items }
+        ensures ordered { IsHeapOrdered T.cmp D self.now.items }
     {
         self.items.len()
     }
@@ -186,7 +187,8 @@ impl<T: Ord, const D: usize> DaryHeap<T, D> {
     ///
     /// *O*(1), without a comparison.
     pub fn is_empty(&self) -> bool
-        ensures { result ≡ (length self.now.items == 0) }
+        ensures empty { result ≡ (length self.now.items == 0) }
+        ensures ordered { IsHeapOrdered T.cmp D self.now.items }
     {
         self.items.is_empty()
     }

@@ -11,7 +11,7 @@ ghost use Rattle.dary_heap.specs.Asking.{IsCallableOn, items_in, predicates_in};
 ghost use Rattle.dary_heap.specs.HeapOrder.{IsHeapOrdered};
 ghost use Rattle.dary_heap.specs.Machine as machine;
 ghost use Rattle.dary_heap.specs.Reading as read;
-ghost use Rattle.dary_heap.specs.Run.{Runs, Serves};
+ghost use Rattle.dary_heap.specs.Run.{Runs, Serves, ServesPlain};
 ghost use Rattle.dary_heap.specs.TwoArities.{SameRepliesAtTwoArities};
 
 use crate::heap::DaryHeap;
@@ -229,28 +229,25 @@ fn serve<T: Ord + Drop, const D: usize, P: FnMut(&T) -> bool>(
     ensures { Serves T.cmp (CalledAt P.FnMut) D heap.old (read.command command) (read.reply result) heap.new }
 {
     match command {
-        Command::Push(item) => push::<T, D, P>(heap, item),
-        Command::Pop => pop::<T, D, P>(heap),
+        Command::Push(item) => push(heap, item),
+        Command::Pop => pop(heap),
         Command::PopIf(predicate) => Reply::Popped(heap.pop_if(predicate)),
         Command::Ask(predicate) => Reply::Asked(ask(heap, predicate)),
-        Command::Len => len::<T, D, P>(heap),
+        Command::Len => len(heap),
         Command::Retain(predicate) => retain(heap, predicate),
-        Command::Extend(items) => extend::<T, D, P>(heap, items),
-        Command::Append(other) => append::<T, D, P>(heap, other),
-        Command::Reserve(additional) => reserve::<T, D, P>(heap, additional),
-        Command::Shrink(capacity) => shrink::<T, D, P>(heap, capacity),
-        Command::Clear => clear::<T, D, P>(heap),
-        Command::Drain(count) => drain::<T, D, P>(alloc, heap, count),
-        Command::DrainSorted(count) => drain_sorted::<T, D, P>(alloc, heap, count),
-        Command::Loan(acts, end) => loan::<T, D, P>(alloc, heap, acts, end),
+        Command::Extend(items) => extend(heap, items),
+        Command::Append(other) => append(heap, other),
+        Command::Reserve(additional) => reserve(heap, additional),
+        Command::Shrink(capacity) => shrink(heap, capacity),
+        Command::Clear => clear(heap),
+        Command::Drain(count) => drain(alloc, heap, count),
+        Command::DrainSorted(count) => drain_sorted(alloc, heap, count),
+        Command::Loan(acts, end) => loan(alloc, heap, acts, end),
     }
 }
 
-fn push<T: Ord, const D: usize, P: FnMut(&T) -> bool>(
-    heap: &mut DaryHeap<T, D>,
-    item: T,
-) -> Reply<T, D>
-    ensures { Serves T.cmp (CalledAt P.FnMut) D heap.old (machine.Push item) (read.reply result) heap.new }
+fn push<T: Ord, const D: usize>(heap: &mut DaryHeap<T, D>, item: T) -> Reply<T, D>
+    ensures { ServesPlain T.cmp D heap.old (machine.Push item) (read.reply result) heap.new }
 {
     match heap.push(item) {
         Ok(()) => Reply::Pushed,
@@ -258,8 +255,8 @@ fn push<T: Ord, const D: usize, P: FnMut(&T) -> bool>(
     }
 }
 
-fn pop<T: Ord, const D: usize, P: FnMut(&T) -> bool>(heap: &mut DaryHeap<T, D>) -> Reply<T, D>
-    ensures { Serves T.cmp (CalledAt P.FnMut) D heap.old machine.Pop (read.reply result) heap.new }
+fn pop<T: Ord, const D: usize>(heap: &mut DaryHeap<T, D>) -> Reply<T, D>
+    ensures { ServesPlain T.cmp D heap.old machine.Pop (read.reply result) heap.new }
 {
     Reply::Popped(heap.pop())
 }
@@ -278,10 +275,10 @@ fn ask<T: Ord, const D: usize, F: FnOnce(&T) -> bool>(
     Some(predicate(heap.peek()?))
 }
 
-fn len<T: Ord, const D: usize, P: FnMut(&T) -> bool>(heap: &DaryHeap<T, D>) -> Reply<T, D>
-    ensures { Serves T.cmp (CalledAt P.FnMut) D heap.now machine.Len (read.reply result) heap.now }
+fn len<T: Ord, const D: usize>(heap: &DaryHeap<T, D>) -> Reply<T, D>
+    ensures { ServesPlain T.cmp D heap.now machine.Len (read.reply result) heap.now }
 {
-    Reply::Len(heap.as_slice().len())
+    Reply::Len(heap.len())
 }
 
 fn retain<T: Ord + Drop, const D: usize, P: FnMut(&T) -> bool>(
@@ -295,11 +292,8 @@ fn retain<T: Ord + Drop, const D: usize, P: FnMut(&T) -> bool>(
     Reply::Done
 }
 
-fn extend<T: Ord + Drop, const D: usize, P: FnMut(&T) -> bool>(
-    heap: &mut DaryHeap<T, D>,
-    items: Vec<T>,
-) -> Reply<T, D>
-    ensures { Serves T.cmp (CalledAt P.FnMut) D heap.old (machine.Extend items.items) (read.reply result) heap.new }
+fn extend<T: Ord + Drop, const D: usize>(heap: &mut DaryHeap<T, D>, items: Vec<T>) -> Reply<T, D>
+    ensures { ServesPlain T.cmp D heap.old (machine.Extend items.items) (read.reply result) heap.new }
 {
     match heap.extend(items) {
         Ok(()) => Reply::Done,
@@ -307,11 +301,11 @@ fn extend<T: Ord + Drop, const D: usize, P: FnMut(&T) -> bool>(
     }
 }
 
-fn append<T: Ord + Drop, const D: usize, P: FnMut(&T) -> bool>(
+fn append<T: Ord + Drop, const D: usize>(
     heap: &mut DaryHeap<T, D>,
     mut other: DaryHeap<T, D>,
 ) -> Reply<T, D>
-    ensures { Serves T.cmp (CalledAt P.FnMut) D heap.old (machine.Append other.items) (read.reply result) heap.new }
+    ensures { ServesPlain T.cmp D heap.old (machine.Append other.items) (read.reply result) heap.new }
 {
     match heap.append(&mut other) {
         Ok(()) => Reply::Done,
@@ -319,11 +313,8 @@ fn append<T: Ord + Drop, const D: usize, P: FnMut(&T) -> bool>(
     }
 }
 
-fn reserve<T: Ord, const D: usize, P: FnMut(&T) -> bool>(
-    heap: &mut DaryHeap<T, D>,
-    additional: usize,
-) -> Reply<T, D>
-    ensures { Serves T.cmp (CalledAt P.FnMut) D heap.old (machine.Reserve additional) (read.reply result) heap.new }
+fn reserve<T: Ord, const D: usize>(heap: &mut DaryHeap<T, D>, additional: usize) -> Reply<T, D>
+    ensures { ServesPlain T.cmp D heap.old (machine.Reserve additional) (read.reply result) heap.new }
 {
     match heap.reserve(additional) {
         Ok(()) => Reply::Done,
@@ -331,11 +322,8 @@ fn reserve<T: Ord, const D: usize, P: FnMut(&T) -> bool>(
     }
 }
 
-fn shrink<T: Ord, const D: usize, P: FnMut(&T) -> bool>(
-    heap: &mut DaryHeap<T, D>,
-    capacity: usize,
-) -> Reply<T, D>
-    ensures { Serves T.cmp (CalledAt P.FnMut) D heap.old (machine.Shrink capacity) (read.reply result) heap.new }
+fn shrink<T: Ord, const D: usize>(heap: &mut DaryHeap<T, D>, capacity: usize) -> Reply<T, D>
+    ensures { ServesPlain T.cmp D heap.old (machine.Shrink capacity) (read.reply result) heap.new }
 {
     match heap.shrink_to(capacity) {
         Ok(()) => Reply::Done,
@@ -343,23 +331,21 @@ fn shrink<T: Ord, const D: usize, P: FnMut(&T) -> bool>(
     }
 }
 
-fn clear<T: Ord + Drop, const D: usize, P: FnMut(&T) -> bool>(
-    heap: &mut DaryHeap<T, D>,
-) -> Reply<T, D>
-    ensures { Serves T.cmp (CalledAt P.FnMut) D heap.old machine.Clear (read.reply result) heap.new }
+fn clear<T: Ord + Drop, const D: usize>(heap: &mut DaryHeap<T, D>) -> Reply<T, D>
+    ensures { ServesPlain T.cmp D heap.old machine.Clear (read.reply result) heap.new }
 {
     heap.clear();
     Reply::Done
 }
 
-fn drain<T: Ord + Drop, const D: usize, P: FnMut(&T) -> bool>(
+fn drain<T: Ord + Drop, const D: usize>(
     alloc: Global,
     heap: &mut DaryHeap<T, D>,
     count: usize,
 ) -> Reply<T, D>
-    ensures { Serves T.cmp (CalledAt P.FnMut) D heap.old (machine.Drain count) (read.reply result) heap.new }
+    ensures { ServesPlain T.cmp D heap.old (machine.Drain count) (read.reply result) heap.new }
 {
-    let count = count.min(heap.as_slice().len());
+    let count = count.min(heap.len());
     let Ok(mut taken) = Vec::with_capacity(alloc, count) else {
         return Reply::Refused;
     };
@@ -370,14 +356,14 @@ fn drain<T: Ord + Drop, const D: usize, P: FnMut(&T) -> bool>(
     Reply::Taken(taken)
 }
 
-fn drain_sorted<T: Ord + Drop, const D: usize, P: FnMut(&T) -> bool>(
+fn drain_sorted<T: Ord + Drop, const D: usize>(
     alloc: Global,
     heap: &mut DaryHeap<T, D>,
     count: usize,
 ) -> Reply<T, D>
-    ensures { Serves T.cmp (CalledAt P.FnMut) D heap.old (machine.DrainSorted count) (read.reply result) heap.new }
+    ensures { ServesPlain T.cmp D heap.old (machine.DrainSorted count) (read.reply result) heap.new }
 {
-    let count = count.min(heap.as_slice().len());
+    let count = count.min(heap.len());
     let Ok(mut taken) = Vec::with_capacity(alloc, count) else {
         return Reply::Refused;
     };
@@ -388,15 +374,15 @@ fn drain_sorted<T: Ord + Drop, const D: usize, P: FnMut(&T) -> bool>(
     Reply::Taken(taken)
 }
 
-fn loan<T: Ord + Drop, const D: usize, P: FnMut(&T) -> bool>(
+fn loan<T: Ord + Drop, const D: usize>(
     alloc: Global,
     heap: &mut DaryHeap<T, D>,
     acts: Vec<Act<T>>,
     end: End,
 ) -> Reply<T, D>
-    ensures { Serves T.cmp (CalledAt P.FnMut) D heap.old (machine.Loan (read.acts acts.items) (read.ending end)) (read.reply result) heap.new }
+    ensures { ServesPlain T.cmp D heap.old (machine.Loan (read.acts acts.items) (read.ending end)) (read.reply result) heap.new }
 {
-    if heap.as_slice().is_empty() {
+    if heap.is_empty() {
         return Reply::Loaned(None);
     }
     let Ok(mut seen) = Vec::with_capacity(alloc, acts.len()) else {

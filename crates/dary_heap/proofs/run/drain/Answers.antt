@@ -6,8 +6,8 @@ use Rattle.dary_heap.proofs.run.drain.Goals as goal
 
 pub returns-in_default : goal.returns-in_default
 returns-in_default g c =
-    let wanted : min c.args.count (length c.args.heap.now.items) ≡ 0 → ⊥ = λ none. (let e : c.min-count.result ≡ 0 = omega (arith, c.min-count.ensures, ap length c.as_slice.ensures.items, none) in let r = c.in_default.ensures.succeeds e in cc) in
-    drain_refused c.args.heap.now c.args.count wanted c.as_slice.ensures.ordered
+    let wanted : min c.args.count (length c.args.heap.now.items) ≡ 0 → ⊥ = λ none. (let e : c.min-count.result ≡ 0 = omega (arith, c.min-count.ensures, c.len.ensures.len, none) in let r = c.in_default.ensures.succeeds e in cc) in
+    drain_refused c.args.heap.now c.args.count wanted c.len.ensures.ordered
 
 pub loop-init : goal.loop-init
 loop-init g c = record {
@@ -20,7 +20,7 @@ loop-init g c = record {
 pub unwrap-requires : goal.unwrap-requires
 unwrap-requires g c =
     let before = c.loop.invariant in
-    first_given c.next.result (drain_rest c.loop.rest) (drain_rest c.next.new.self) c.next.ensures.steps (omega (arith, c.loop-test.true, c.min-count.ensures, ap length c.as_slice.ensures.items, ap length c.drain-rest.ensures.items, ap length before.parts, length-append c.loop.taken.items (drain_rest c.loop.rest), before.long))
+    first_given c.next.result (drain_rest c.loop.rest) (drain_rest c.next.new.self) c.next.ensures.steps (omega (arith, c.loop-test.true, c.min-count.ensures, c.len.ensures.len, ap length c.drain-rest.ensures.items, ap length before.parts, length-append c.loop.taken.items (drain_rest c.loop.rest), before.long))
 
 pub push_reserved-requires : goal.push_reserved-requires
 push_reserved-requires g c = omega (arith, c.loop-test.true, c.loop.invariant.long, c.loop.invariant.space)
@@ -41,5 +41,5 @@ pub returns : goal.returns
 returns g c =
     let before = c.loop.invariant in
     let m = min c.args.count (length c.args.heap.now.items) in
-    let long : length c.loop.taken.items ≡ m = omega (arith, c.min-count.ensures, ap length c.as_slice.ensures.items, before.long, before.within, c.loop-test.false) in
+    let long : length c.loop.taken.items ≡ m = omega (arith, c.min-count.ensures, c.len.ensures.len, before.long, before.within, c.loop-test.false) in
     drained c.args.heap.now (emptied c.args.heap.now) c.args.count c.loop.taken.items (sym (ap (λ xs. take m xs) (sym c.drain-rest.ensures.items ∙ before.parts) ∙ written_back m c.loop.taken.items (drain_rest c.loop.rest) long)) refl refl

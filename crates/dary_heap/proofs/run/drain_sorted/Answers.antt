@@ -1,5 +1,4 @@
 use Rattle.std.proofs.Common.{rules, ◌≡◌, ℕ, ◌+◌, ◌≤◌, ◌∷◌, [], length, min, Some, refl, sym, ap, ◌∙◌, subst, arith, length-append}
-use Rattle.std.specs.Fn.{CalledAt}
 use Rattle.dary_heap.specs.Bounds.{RisesWithin}
 use Rattle.dary_heap.specs.Contents.{Contents}
 use Rattle.dary_heap.specs.DrainSorted.{drained_heap}
@@ -9,12 +8,12 @@ use Rattle.dary_heap.proofs.run.drain_sorted.Goals as goal
 
 pub returns-in_default : goal.returns-in_default
 returns-in_default g c =
-    let wanted : min c.args.count (length c.args.heap.now.items) ≡ 0 → ⊥ = λ none. (let e : c.min-count.result ≡ 0 = omega (arith, c.min-count.ensures, ap length c.as_slice.ensures.items, none) in let r = c.in_default.ensures.succeeds e in cc) in
-    sorted_refused c.args.heap.now c.args.count wanted c.as_slice.ensures.ordered
+    let wanted : min c.args.count (length c.args.heap.now.items) ≡ 0 → ⊥ = λ none. (let e : c.min-count.result ≡ 0 = omega (arith, c.min-count.ensures, c.len.ensures.len, none) in let r = c.in_default.ensures.succeeds e in cc) in
+    sorted_refused c.args.heap.now c.args.count wanted c.len.ensures.ordered
 
 pub loop-init : goal.loop-init
 loop-init g c = record {
-  through = subst (λ xs. PopsThrough g.T.Ord.cmp (CalledAt g.P.FnMut) (drained_heap c.drain_sorted-items.result).items xs (drained_heap c.drain_sorted-items.result).items) (sym c.in-Ok.ensures.items) refl;
+  through = subst (λ xs. PopsThrough g.T.Ord.cmp (drained_heap c.drain_sorted-items.result).items xs (drained_heap c.drain_sorted-items.result).items) (sym c.in-Ok.ensures.items) refl;
   parts = omega (arith, ap length c.in-Ok.ensures.items);
   long = omega (arith, c.in-Ok.ensures.len);
   within = omega arith;
@@ -27,7 +26,7 @@ loop-init g c = record {
 pub unwrap-requires : goal.unwrap-requires
 unwrap-requires g c =
     let before = c.loop.invariant in
-    popped_some (drained_heap c.loop.items) (drained_heap c.next.new.self) c.next.result c.next.ensures.steps.0 (omega (arith, c.loop-test.true, c.min-count.ensures, ap length c.as_slice.ensures.items, ap (λ (it : Contents g.row.T.Denot). length it.items) c.drain_sorted-items.ensures.heap, before.parts, before.long))
+    popped_some (drained_heap c.loop.items) (drained_heap c.next.new.self) c.next.result c.next.ensures.steps.0 (omega (arith, c.loop-test.true, c.min-count.ensures, c.len.ensures.len, ap (λ (it : Contents g.row.T.Denot). length it.items) c.drain_sorted-items.ensures.heap, before.parts, before.long))
 
 pub push_reserved-requires : goal.push_reserved-requires
 push_reserved-requires g c = omega (arith, c.loop-test.true, c.loop.invariant.long, c.loop.invariant.space)
@@ -40,7 +39,7 @@ loop-preserved g c =
     let new = drained_heap c.next.new.self in
     let pop : IsPop g.T.Ord.cmp g.row.D old (Some x) new = subst (λ r. IsPop g.T.Ord.cmp g.row.D old r new) c.unwrap.ensures c.next.ensures.steps.0 in
     record {
-      through = rw c.push_reserved.ensures.items (PopsThrough-more g.T.Ord.cmp (CalledAt g.P.FnMut) _ c.loop.taken.items old.items x new.items before.through (IsPop-step g.met.T.Ord.total (CalledAt g.P.FnMut) old new x pop));
+      through = rw c.push_reserved.ensures.items (PopsThrough-more g.T.Ord.cmp _ c.loop.taken.items old.items x new.items before.through (IsPop-step g.met.T.Ord.total old new x pop));
       parts = omega (arith, ap length c.push_reserved.ensures.items, length-append c.loop.taken.items (x ∷ []), pop.len, before.parts);
       long = omega arith;
       within = omega arith;
@@ -60,6 +59,6 @@ returns g c =
     let old = drained_heap c.drain_sorted-items.result in
     let begun = c.drain_sorted-items.ensures.heap in
     let items : length c.args.heap.now.items ≡ length old.items = ap (λ (it : Contents g.row.T.Denot). length it.items) (sym begun) in
-    let long : length c.loop.taken.items ≡ min c.args.count (length old.items) = omega (arith, c.min-count.ensures, ap length c.as_slice.ensures.items, items, before.long, before.within, c.loop-test.false) in
+    let long : length c.loop.taken.items ≡ min c.args.count (length old.items) = omega (arith, c.min-count.ensures, c.len.ensures.len, items, before.long, before.within, c.loop-test.false) in
     rw (← begun) (drained_sorted old _ c.drop-items.new.self.0 c.args.count c.loop.taken.items (drained_heap c.loop.items).items (search rules) before.through long before.parts c.drop-items.ensures.items
     (counted_on before.rises before.counted c.drop-items.ensures.counted))

@@ -1,5 +1,4 @@
 use Rattle.std.proofs.Common.{◌≡◌, ◌+◌, ◌≤◌, length, vec_len, vec_capacity}
-use Rattle.std.specs.Fn.{CalledAt}
 use Rattle.dary_heap.specs.Bounds.{pops_bound}
 use Rattle.dary_heap.specs.DrainSorted.{drained_heap, drained_lender}
 use Rattle.dary_heap.proofs.ServingDrains.{PopsThrough}
@@ -7,7 +6,7 @@ use Rattle.dary_heap.proofs.run.drain_sorted.Given as goal
 
 abbrev pub invariant-loop : goal.invariant-loop
 invariant-loop g l = record {
-  through : PopsThrough g.T.Ord.cmp (CalledAt g.P.FnMut) (drained_heap l.initial.items).items l.taken.items (drained_heap l.items).items;
+  through : PopsThrough g.T.Ord.cmp (drained_heap l.initial.items).items l.taken.items (drained_heap l.items).items;
   parts : length l.taken.items + length (drained_heap l.items).items ≡ length (drained_heap l.initial.items).items;
   long : vec_len l.taken ≡ l.counter;
   within : l.counter ≤ l.count;

@@ -1,7 +1,6 @@
 use Rattle.std.proofs.Common.{rules, ◌≡◌, ℕ, ◌+◌, ◌*◌, ◌≤◌, ◌++◌, ◌∷◌, List, [], length, refl, sym, ap, ◌∙◌, subst, arith, vec_capacity, append_assoc, append-nil, length-append, map, slice_set}
 use Rattle.std.proofs.lemmas.List.{map-append, length-map}
 use Rattle.std.proofs.Math.ListN.{length-set}
-use Rattle.std.specs.Fn.{CalledAt}
 use Rattle.std.specs.Vec.Iter.{into_iter_items, into_iter_len}
 use borrow.Author.Tests.{eqb-true, eqb-false}
 use Rattle.dary_heap.specs.Bounds.{RisesWithin, refreshes, sink_bound}
@@ -18,17 +17,17 @@ use Rattle.dary_heap.proofs.run.loan.Goals.{Joined-end, in-Write, in-Refresh, in
 
 pub returns-then-is_empty : goal.returns-then-is_empty
 returns-then-is_empty g c =
-    loan_of_none c.args.heap.now (read.acts c.args.acts.items) (read.ending c.args.end) (sym (ap length c.as_slice.ensures.items) ∙ eqb-true _ 0 (sym c.if-is_empty.ensures)) c.as_slice.ensures.ordered
+    loan_of_none c.args.heap.now (read.acts c.args.acts.items) (read.ending c.args.end) (eqb-true _ 0 (sym c.if-is_empty.ensures.empty)) c.if-is_empty.ensures.ordered
 
 pub unwrap-loan-requires : goal.unwrap-loan-requires
 unwrap-loan-requires g c =
-    let some : length c.args.heap.now.items ≡ 0 → ⊥ = λ none. eqb-false _ 0 (sym c.if-is_empty.ensures) (ap length c.as_slice.ensures.items ∙ none) in
+    let some : length c.args.heap.now.items ≡ 0 → ⊥ = λ none. eqb-false _ 0 (sym c.if-is_empty.ensures.empty) none in
     c.peek_mut.ensures.variant.1 (omega (arith, some))
 
 pub returns-in_default : goal.returns-in_default
 returns-in_default g c =
     let wanted : length (read.acts c.args.acts.items) ≡ 0 → ⊥ = λ none. (let e : c.len.result ≡ 0 = omega (arith, c.len.ensures, length-map c.args.acts.items read.act, none) in let r = c.in_default.ensures.succeeds e in cc) in
-    loan_refused c.args.heap.now (read.acts c.args.acts.items) (read.ending c.args.end) (search rules) wanted c.as_slice.ensures.ordered
+    loan_refused c.args.heap.now (read.acts c.args.acts.items) (read.ending c.args.end) (search rules) wanted c.if-is_empty.ensures.ordered
 
 pub loop-act-init : goal.loop-act-init
 loop-act-init g c =
@@ -38,7 +37,7 @@ loop-act-init g c =
       left = omega (arith, ap length gives.0, gives.1);
       told = ap length c.in-Ok.ensures.items;
       space = omega (arith, c.len.ensures, c.in-Ok.ensures.capacity);
-      acted = rw c.in-Ok.ensures.items (IsActed-begins g.T.Ord.cmp (CalledAt g.P.FnMut) (loaned c.unwrap-loan.result).items c.unwrap-loan.result.lent.some);
+      acted = rw c.in-Ok.ensures.items (IsActed-begins g.T.Ord.cmp (loaned c.unwrap-loan.result).items c.unwrap-loan.result.lent.some);
       len = refl;
       rises = omega arith;
       counted = omega arith;
@@ -74,7 +73,7 @@ loop-act-preserved g c =
       | in-Write w ↦
           let item = w.in-Write.item in
           let now : (loaned c.match-act.loan).items ≡ slice_set mid 0 item = ap (λ it. (loaned it).items) w.loan-is ∙ ap (slice_set mid 0) w.replace.ensures.after in
-          let acted = IsActed-write g.T.Ord.cmp (CalledAt g.P.FnMut) begun (read.acts yielded) (read.sights c.loop-act.seen.items) mid item w.deref_mut.result.now before.acted w.deref_mut.ensures.first in
+          let acted = IsActed-write g.T.Ord.cmp begun (read.acts yielded) (read.sights c.loop-act.seen.items) mid item w.deref_mut.result.now before.acted w.deref_mut.ensures.first in
           let writes : read.acts (yielded ++ act ∷ []) ≡ read.acts yielded ++ machine.Write item ∷ [] = done ∙ ap (λ a. read.acts yielded ++ read.act a ∷ []) w.in-Write.is in
           let sees : read.sights c.push_reserved.new.self.items ≡ read.sights c.loop-act.seen.items ++ machine.Old w.deref_mut.result.now ∷ [] = told ∙ ap (λ s. read.sights c.loop-act.seen.items ++ read.sight s ∷ []) w.push_reserved-is ∙ ap (λ v. read.sights c.loop-act.seen.items ++ machine.Old v ∷ []) w.replace.ensures.value in
           record {
@@ -91,7 +90,7 @@ loop-act-preserved g c =
       | in-Refresh w ↦
           let h = w.refresh.ensures in
           let now : (loaned c.match-act.loan).items ≡ (loaned w.refresh.new.self).items = ap (λ it. (loaned it).items) w.loan-is in
-          let acted = IsActed-refresh g.T.Ord.cmp (CalledAt g.P.FnMut) begun (read.acts yielded) (read.sights c.loop-act.seen.items) mid (loaned w.refresh.new.self).items w.refresh.result before.acted h.moved h.bag h.greatest h.unmoved in
+          let acted = IsActed-refresh g.T.Ord.cmp begun (read.acts yielded) (read.sights c.loop-act.seen.items) mid (loaned w.refresh.new.self).items w.refresh.result before.acted h.moved h.bag h.greatest h.unmoved in
           let refreshed : read.acts (yielded ++ act ∷ []) ≡ read.acts yielded ++ machine.Refresh ∷ [] = done ∙ ap (λ a. read.acts yielded ++ read.act a ∷ []) w.in-Refresh.is in
           let sees : read.sights c.push_reserved.new.self.items ≡ read.sights c.loop-act.seen.items ++ machine.Changed w.refresh.result ∷ [] = told ∙ ap (λ s. read.sights c.loop-act.seen.items ++ read.sight s ∷ []) w.push_reserved-is in
           record {
@@ -108,7 +107,7 @@ loop-act-preserved g c =
     ]
 
 -- what the loan did before its end
-loan : (g : Over) (c : Joined-end g) (end : Contents g.row.T.Denot) (last_cost : ℕ) → RisesWithin (loaned c.loop-act.loan).comparisons end.comparisons last_cost → IsHeapOrdered g.T.Ord.cmp g.row.D end.items → IsLoan g.T.Ord.cmp (CalledAt g.P.FnMut) g.row.D c.args.heap.now (loaned c.loop-act.loan) end (read.acts c.args.acts.items) (read.sights c.loop-act.seen.items) last_cost
+loan : (g : Over) (c : Joined-end g) (end : Contents g.row.T.Denot) (last_cost : ℕ) → RisesWithin (loaned c.loop-act.loan).comparisons end.comparisons last_cost → IsHeapOrdered g.T.Ord.cmp g.row.D end.items → IsLoan g.T.Ord.cmp g.row.D c.args.heap.now (loaned c.loop-act.loan) end (read.acts c.args.acts.items) (read.sights c.loop-act.seen.items) last_cost
 loan g c end last_cost ended ordered =
     let before = c.loop-act.invariant in
     let mid = loaned c.loop-act.loan in
@@ -116,7 +115,7 @@ loan g c end last_cost ended ordered =
     let rest : into_iter_items c.loop-act.act-iterator ≡ [] = empty _ (omega (arith, c.in-None.ensures.steps.0, before.left)) in
     let all : c.args.acts.items ≡ c.loop-act.yielded = before.split ∙ ap (λ xs. c.loop-act.yielded ++ xs) rest ∙ append-nil c.loop-act.yielded in
     rw all record {
-      acted = subst (λ (it : Contents g.row.T.Denot). IsActed g.T.Ord.cmp (CalledAt g.P.FnMut) it.items (read.acts c.loop-act.yielded) (read.sights c.loop-act.seen.items) mid.items) begun before.acted;
+      acted = subst (λ (it : Contents g.row.T.Denot). IsActed g.T.Ord.cmp it.items (read.acts c.loop-act.yielded) (read.sights c.loop-act.seen.items) mid.items) begun before.acted;
       len = before.len ∙ ap (λ (it : Contents g.row.T.Denot). length it.items) begun;
       rises = subst (λ (it : Contents g.row.T.Denot). it.comparisons ≤ mid.comparisons) begun before.rises;
       counted = subst (λ (it : Contents g.row.T.Denot). mid.comparisons ≤ it.comparisons + refreshes (read.acts c.loop-act.yielded) * sink_bound g.row.D (length it.items)) begun before.counted;

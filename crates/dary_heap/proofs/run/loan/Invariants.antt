@@ -1,5 +1,4 @@
 use Rattle.std.proofs.Common.{◌≡◌, ◌+◌, ◌*◌, ◌++◌, ◌≤◌, length, vec_capacity}
-use Rattle.std.specs.Fn.{CalledAt}
 use Rattle.std.specs.Vec.Iter.{into_iter_items, into_iter_len}
 use Rattle.dary_heap.specs.Bounds.{refreshes, sink_bound}
 use Rattle.dary_heap.specs.PeekMut.{loaned, lender}
@@ -13,7 +12,7 @@ invariant-loop-act g l = record {
   left : into_iter_len l.act-iterator ≡ length (into_iter_items l.act-iterator);
   told : length l.seen.items ≡ length l.yielded;
   space : length l.fn.acts.items ≤ vec_capacity l.seen;
-  acted : IsActed g.T.Ord.cmp (CalledAt g.P.FnMut) (loaned l.initial.loan).items (read.acts l.yielded) (read.sights l.seen.items) (loaned l.loan).items;
+  acted : IsActed g.T.Ord.cmp (loaned l.initial.loan).items (read.acts l.yielded) (read.sights l.seen.items) (loaned l.loan).items;
   len : length (loaned l.loan).items ≡ length (loaned l.initial.loan).items;
   rises : (loaned l.initial.loan).comparisons ≤ (loaned l.loan).comparisons;
   counted : (loaned l.loan).comparisons ≤ (loaned l.initial.loan).comparisons + refreshes (read.acts l.yielded) * sink_bound g.row.D (length (loaned l.initial.loan).items);
