@@ -184,8 +184,8 @@ pub fn run<T: Ord + Drop, const D: usize, P: FnMut(&T) -> bool>(
     ensures returned { IfErr result (λ back. back.items ≡ commands.items) }
     ensures unchanged { IfErr result (λ back. heap.new ≡ heap.old) }
 {
-    // It ensures that the heap is ordered, also if there is no command.
-    let _ = heap.as_slice();
+    // `len` ensures that the heap is ordered, also if there is no command.
+    prove!(heap.len() <= heap.capacity());
     let Ok(mut replies) = Vec::with_capacity(alloc, commands.len()) else {
         return Err(commands);
     };

@@ -21,10 +21,10 @@ loop-command-init g c =
       split = sym gives.0;
       left = omega (arith, ap length gives.0, gives.1);
       told = ap length c.in-Ok.ensures.items;
-      space = omega (arith, ap length c.in-Ok.ensures.items, gives.1, c.len.ensures, c.in-Ok.ensures.capacity);
-      runs = rw c.in-Ok.ensures.items (Runs-begins c.args.heap.now (ordered_state g.met.T.Ord.total g.row.D c.args.heap.now.items c.as_slice.ensures.ordered));
+      space = omega (arith, ap length c.in-Ok.ensures.items, gives.1, c.len-2.ensures, c.in-Ok.ensures.capacity);
+      runs = rw c.in-Ok.ensures.items (Runs-begins c.args.heap.now (ordered_state g.met.T.Ord.total g.row.D c.args.heap.now.items c.len.ensures.ordered));
       among = λ x in'. Contains-append_left c.args.heap.now.items _ x in';
-      ordered = c.as_slice.ensures.ordered;
+      ordered = c.len.ensures.ordered;
     }
 
 pub serve-requires : goal.serve-requires
