@@ -1,39 +1,24 @@
 -- A predicate that is asked about the items of a list, one after another.
 use Rattle.std.proofs.Common.{◌≡◌, ◌≢◌, ℕ, zero, suc, ◌+◌, ◌<◌, ◌≤◌, Bool, true, false, List, [], ◌∷◌, ◌++◌, length, get_or, refl, sym, ap, ◌∙◌, subst, arith, Some, slice_get, take, drop}
 use Rattle.std.proofs.lemmas.List.{take_more}
-use Rattle.std.proofs.lemmas.Option.{get_or_from_slice_get}
+use Rattle.std.proofs.lemmas.Option.{slice_get_within, get_or_from_slice_get}
 use Rattle.std.specs.Fn.{Mut, TakesAt, CalledAt}
 use denote.Ref.{Bor}
 use Rattle.std.specs.List.{items_where_true}
 use Rattle.std.specs.List.Retain.{ReturnsInTurn}
+use Rattle.std.proofs.Retain.{answers_push, picked_push_true}
 use Rattle.dary_heap.specs.Asking.{TakesInTurn}
 use Rattle.dary_heap.specs.Filtering.{first_no}
 use Rattle.dary_heap.proofs.Exchange.{Exchanges}
 
-module _ {X P : Type 0} (R : P → X → Bool → P → Type 0) where
-  -- one item more
-  pub ReturnsInTurn-more : (p q r : P) (bs : List Bool) (b : Bool) (xs : List X) (x : X) → slice_get xs (length bs) ≡ Some x → ReturnsInTurn R p bs xs q → R q x b r → ReturnsInTurn R p (bs ++ b ∷ []) xs r
-  ReturnsInTurn-more p q r [] b [] x at told next = cc
-  ReturnsInTurn-more p q r [] b (y ∷ xs) x at told next =
-      let same : y ≡ x = (cc) in
-      (r, subst (λ s. R s y b r) (sym told) (subst (λ z. R q z b r) (sym same) next), refl)
-  ReturnsInTurn-more p q r (c ∷ bs) b [] x at told next = absurd told
-  ReturnsInTurn-more p q r (c ∷ bs) b (y ∷ xs) x at told next = (told.0, told.1, ReturnsInTurn-more told.0 q r bs b xs x at told.2 next)
+-- one item more, by the answer for it
+pub ReturnsInTurn-more : {X P : Type 0} (R : P → X → Bool → P → Type 0) (p q r : P) (bs : List Bool) (b : Bool) (xs : List X) (x : X) → slice_get xs (length bs) ≡ Some x → ReturnsInTurn R p bs xs q → R q x b r → ReturnsInTurn R p (bs ++ b ∷ []) xs r
+ReturnsInTurn-more R p q r bs b xs x at told next = answers_push R p q r bs xs x b (slice_get_within xs (length bs) x at) (sym (get_or_from_slice_get xs (length bs) x x at)) told next
 
 module _ {X : Type 0} where
   pub picked-yes : (bs : List Bool) (xs : List X) (x : X) → slice_get xs (length bs) ≡ Some x → items_where_true (bs ++ true ∷ []) xs ≡ items_where_true bs xs ++ x ∷ []
-  picked-yes [] [] x at = cc
-  picked-yes [] (y ∷ xs) x at = let same : y ≡ x = (cc) in ap (λ z. z ∷ []) same
-  picked-yes (b ∷ bs) [] x at = cc
-  picked-yes (true ∷ bs) (y ∷ xs) x at = ap (λ zs. y ∷ zs) (picked-yes bs xs x at)
-  picked-yes (false ∷ bs) (y ∷ xs) x at = picked-yes bs xs x at
-
-  pub picked-no : (bs : List Bool) (xs : List X) → items_where_true (bs ++ false ∷ []) xs ≡ items_where_true bs xs
-  picked-no [] [] = refl
-  picked-no [] (y ∷ xs) = refl
-  picked-no (b ∷ bs) [] = refl
-  picked-no (true ∷ bs) (y ∷ xs) = ap (λ zs. y ∷ zs) (picked-no bs xs)
-  picked-no (false ∷ bs) (y ∷ xs) = picked-no bs xs
+  picked-yes bs xs x at =
+      picked_push_true bs xs x (slice_get_within xs (length bs) x at) ∙ ap (λ z. items_where_true bs xs ++ z ∷ []) (get_or_from_slice_get xs (length bs) x x at)
 
   -- where each answer was yes, all are picked
   pub picked-all : (bs : List Bool) (xs : List X) → length bs ≡ length xs → first_no bs ≡ length bs → items_where_true bs xs ≡ xs

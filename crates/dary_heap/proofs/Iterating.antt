@@ -1,4 +1,4 @@
--- What runs of calls of `next` give, for iterators of which the list of what is left is seen.
+-- What iterators give in a row, if their remaining items are seen as a list.
 use Rattle.std.proofs.Common.{List, length, ap}
 use Rattle.std.specs.Iterator.{YieldsFirst, YieldsLast, YieldsFirstRef, YieldsLastRef}
 use Rattle.std.specs.Iterator.Runs.{YieldsInOrder, YieldsInReverse, YieldsRefsInOrder, YieldsRefsInReverse}

@@ -131,7 +131,7 @@ module _ {X P : Type 0} {cmp : X → X → Ordering} {answers : P → X → Bool
     among = λ x in'. Contains-append_left old.items (other ++ []) x in';
   }
 
--- what the iterator of a vector has given is a front of its items
+-- first what a vector's iterator gave, then what it still has
 pub taken_front : {X A : Type 0} (s : IntoIter X A) (xs : List X) (t : IntoIter X A) → Yields into_iter_steps s xs t → into_iter_items s ≡ xs ++ into_iter_items t
 taken_front s [] t y = ap into_iter_items y
 taken_front s (x ∷ xs) t y = y.1.0 ∙ ap (λ ys. x ∷ ys) (taken_front y.0 xs t y.2)

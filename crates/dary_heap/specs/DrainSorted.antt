@@ -12,7 +12,7 @@ module _ {T : Type 0} {D : ℕ} where
   abbrev pub drained_heap : DrainSorted T D → Contents T
   drained_heap it = it.heap.now
 
-  -- the ghost name of the reference to the heap
+  -- the heap's reference, by its ghost name
   abbrev pub drained_lender : DrainSorted T D → GName
   drained_lender it = it.heap.ghost_name
 
@@ -20,6 +20,6 @@ module _ {T : Type 0} {D : ℕ} where
   abbrev pub DrainsSorted : (T → T → Ordering) → DrainSorted T D → Option T → DrainSorted T D → Type 0
   DrainsSorted cmp old popped new = IsPop cmp D (drained_heap old) popped (drained_heap new) × (drained_lender new ≡ drained_lender old)
 
-  -- each state that calls of `next` lead to holds the heap of the first
+  -- however often `next` is called, the heap is that of the first state
   abbrev pub KeepsHeapAlong : (T → T → Ordering) → DrainSorted T D → Type 0
   KeepsHeapAlong cmp first = (items : List T) (later : DrainSorted T D) → Yields (DrainsSorted cmp) first items later → drained_lender later ≡ drained_lender first

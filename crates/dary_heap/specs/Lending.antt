@@ -37,7 +37,7 @@ module _ {X : Type 0} (D : ℕ) (o : ord.Ghosts X) (e : eq.Ghosts X) (p : partia
   with_first-is loan w q = ap (λ it. record (with_first loan w) { lent = it }) (IsLent-prop o.cmp D true (slice_set loan.items.items 0 w) q (with_first loan w).lent)
 
 module _ (T D : RattleType) (o : ord.Ghosts T.Denot) (e : eq.Ghosts T.Denot) (p : partial_ord.Ghosts T.Denot) where
-  -- a loan as the logic holds it. Its lifetime is the second of the signature
+  -- a loan as the logic holds it, under the signature's second lifetime
   abbrev pub loan_row : RattleType
   loan_row = the_row (record { mir = named 1; lft = [] }) T D (vec.the_row T global.the_row global_impl.ghosts) o e p (held_impl.ghosts T)
 

@@ -10,8 +10,7 @@ use crate::heap::DaryHeap;
 use std::iter::FusedIterator;
 use std::{fmt, mem};
 
-/// An iterator over the items of a heap, in the order in which they were stored. The heap is empty
-/// afterwards.
+/// An iterator over the items of a heap, in the order of its slice. The heap is empty afterwards.
 ///
 /// [`DaryHeap::drain`] returns it. A clause sees it by the words of `specs/Drain.antt`: as
 /// `drain_rest` the list of the items that are left.
@@ -32,7 +31,7 @@ use std::{fmt, mem};
 #[derive(Drop)]
 pub struct Drain<'a, T> {
     rest: IntoIter<T>,
-    // The items that the heap has left, which are none. The loan keeps the heap borrowed.
+    // What the heap has left: no item. It keeps the heap borrowed.
     left: &'a mut [T],
 }
 

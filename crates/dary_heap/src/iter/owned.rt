@@ -11,7 +11,7 @@ use std::fmt;
 use std::iter::FusedIterator;
 use std::marker::Model;
 
-/// An iterator over the items of a heap, in the order in which they were stored.
+/// An iterator over the items of a heap, in the order of its slice.
 ///
 /// The heap's `into_iter` returns it. A clause sees it as the list of the items that are left.
 ///

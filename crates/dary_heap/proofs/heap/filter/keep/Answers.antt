@@ -4,10 +4,11 @@ use Rattle.std.proofs.lemmas.Option.{slice_get_read}
 use Rattle.std.specs.Fn.{CalledAt}
 use mathlib.Core.Bool.{◌&&◌}
 use mir.Val.{bool_byte}
+use Rattle.std.proofs.Retain.{picked_push_false}
 use Rattle.dary_heap.specs.Asking.{TakesInTurn}
 use Rattle.dary_heap.specs.Filtering.{first_no}
 use Rattle.dary_heap.proofs.Exchange.{Exchanges, exchanges}
-use Rattle.dary_heap.proofs.Filtering.{ReturnsInTurn-more, picked-yes, picked-no, first_no-within, first_no-next, first_no-still, next_asked, take-before, take-brought}
+use Rattle.dary_heap.proofs.Filtering.{ReturnsInTurn-more, picked-yes, first_no-within, first_no-next, first_no-still, next_asked, take-before, take-brought}
 use Rattle.dary_heap.proofs.heap.filter.keep.Invariants.{Told}
 use Rattle.dary_heap.proofs.heap.filter.keep.Goals as goal
 
@@ -49,7 +50,7 @@ told_more calls old xs ys f q r place kept start false x within few there here e
       answers = told.answers ++ false ∷ [];
       so_far = omega (arith, length-append told.answers (false ∷ []), told.so_far);
       asked = ReturnsInTurn-more calls f q r told.answers false old x at told.asked called;
-      front = ap (λ n. take n ys) same ∙ take-before xs ys kept place few e ∙ told.front ∙ sym (picked-no told.answers old);
+      front = ap (λ n. take n ys) same ∙ take-before xs ys kept place few e ∙ told.front ∙ sym (picked_push_false told.answers old);
       first = first_no-grown told.answers false start place told.first told.so_far;
     }
 

@@ -1,4 +1,4 @@
--- An empty body: the borrow is opened, and closed at the next ghost value.
+-- No code runs: the borrow opens and closes again, with another ghost value.
 use Rattle.std.proofs.Common.{◌+◌, [], ◌∷◌, refl}
 use Rattle.std.proofs.raw_atomic.Walks.{proved}
 use base.Logic.{id⊢}
