@@ -1,5 +1,6 @@
 pub mod Asking
 pub mod Callable
+pub mod Choosing
 pub mod Cloning
 pub mod Cost
 pub mod Depth
@@ -39,9 +40,8 @@ pub mod Examining
 pub mod Walks
 pub mod Relaxing
 pub mod Searching
-pub mod HeldItem
 pub mod PlacesOwned
 pub mod WalksAt
-pub mod OthersSeen
+pub mod HoleSeen
+pub mod Holes
 pub mod SlotsLent
-pub mod Moving

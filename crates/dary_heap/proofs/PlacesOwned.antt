@@ -1,9 +1,9 @@
--- What `Places` and `Others` own, at any item type: two words, and the row of places that they lead to. Assumes `Logic`.
+-- What `Places` and `Hole` own, at any item type: two words, and the row of places that they lead to. Assumes `Logic`.
 --     two_words, words     the two words as a machine value
 --     Whole, Hollow, row_of     the types of the two, and what both own
 --     size_fits, offset_fits     an offset into a row does not overflow
 --     row_out, row_found, row_in     a row is taken from its two words, at a block or at any pointer, and put back
---     hollow_opened, hollow_closed     a `&mut Others` is opened and closed
+--     hollow_opened, hollow_closed     a `&mut Hole` is opened and closed
 --     lent_as_row, row_back     a `&mut [T]` is opened as a `Places`, and closed at the one that comes back
 use Prim.Native.Nat.{ℕ, ◌*◌, ◌<◌, ◌^◌}
 use mathlib.Core.Bool.{Bool, true, false}
@@ -43,9 +43,9 @@ use Rattle.core.proofs.slots.Places.{sz, of_row, to_row}
 use Rattle.core.specs.Mem.Slots.Ownership.{owned, slots}
 use Rattle.dary_heap.specs.Hole.{IsSameSlice}
 use Rattle.dary_heap.specs.Places.{all_filled, filled_but}
-use Rattle.dary_heap.specs.contracts.hole.places.Others as O
+use Rattle.dary_heap.specs.contracts.hole.places.Hole as O
 use Rattle.dary_heap.specs.contracts.hole.places.Places as P
-use Rattle.dary_heap.specs.declared.hole.places.Others.{Others}
+use Rattle.dary_heap.specs.declared.hole.places.Hole.{Hole}
 use Rattle.dary_heap.specs.declared.hole.places.Places.{Places}
 
 -- a pointer and a length
@@ -123,8 +123,8 @@ module _ (E : El) {M : Type 1} {𝓤 : Ura M} {𝓛 : Logic 𝓤} {K : Type 0} {
       ((rawptr_vals (block_ptr b o), (uint_vals w64 n, tt)), (refl, (refl, ((refl, room.0), tt)))) $ fjoin t $ s)
 
 module _ (E : El) {M : Type 1} {𝓤 : Ura M} {𝓛 : Logic 𝓤} {K : Type 0} {Γ : List (Item 𝓤)} {G : Goal 𝓤 𝓛.H} where
-  -- a `&mut` to an `Others`: the row, its two words, and the open borrow in three entries
-  pub hollow_opened : K → Soaks G → {κ : Lft} {q : Share} {γ : GName} (h : Others (el_x E)) (rb ro : ℕ)
+  -- a `&mut` to an `Hole`: the row, its two words, and the open borrow in three entries
+  pub hollow_opened : K → Soaks G → {κ : Lft} {q : Share} {γ : GName} (h : Hole (el_x E)) (rb ro : ℕ)
       → ((b o : ℕ) → h.ptr ≡ block_ptr b o → Room (R E) h.len
       → Seq K 𝓛 (‵ (slots (R E) (block_ptr b o) h.items (filled_but h.len h.at)) ∷ ‵ (cell_at full_share (Hollow E).mir (words (block_ptr b o) h.len) rb ro) ∷ ‵ (fobor κ q (Body (mem (Hollow E)) rb ro γ)) ∷ ‵ (fobs γ ((Hollow E).coded.code h)) ∷ ‵ (fauth γ ((Hollow E).coded.code h)) ∷ Γ) G)
       → Seq K 𝓛 (‵ (fobs γ ((Hollow E).coded.code h)) ∷ ‵ (fbor κ (Body (mem (Hollow E)) rb ro γ)) ∷ ‵ (flft κ q) ∷ Γ) G
@@ -132,7 +132,7 @@ module _ (E : El) {M : Type 1} {𝓤 : Ura M} {𝓛 : Logic 𝓤} {K : Type 0} {
       opens t z (Hollow E) {h = h} rb ro (λ us. move t (1 ∷ []) $ row_found E t h.ptr h.len h.items (filled_but h.len h.at) us (λ b o at is room.
       rewrite t 1 (λ (ws : List Val). ‵ (cell_at full_share (Hollow E).mir ws rb ro)) is refl $ k b o at room))
 
-  pub hollow_closed : K → Soaks G → {κ : Lft} {q : Share} {u v : Gv} {γ : GName} (h : Others (el_x E)) (b o rb ro : ℕ) → block_ptr b o ≡ h.ptr → Room (R E) h.len
+  pub hollow_closed : K → Soaks G → {κ : Lft} {q : Share} {u v : Gv} {γ : GName} (h : Hole (el_x E)) (b o rb ro : ℕ) → block_ptr b o ≡ h.ptr → Room (R E) h.len
       → Step K 𝓛 (‵ (fobs γ ((Hollow E).coded.code h)) ∷ ‵ (fbor κ (Body (mem (Hollow E)) rb ro γ)) ∷ ‵ (flft κ q) ∷ Γ) G
       (‵ (slots (R E) (block_ptr b o) h.items (filled_but h.len h.at)) ∷ ‵ (cell_at full_share (Hollow E).mir (words (block_ptr b o) h.len) rb ro) ∷ ‵ (fobor κ q (Body (mem (Hollow E)) rb ro γ)) ∷ ‵ (fobs γ u) ∷ ‵ (fauth γ v) ∷ Γ) G
   hollow_closed t z h b o rb ro is room = step (λ s. row_in E t b o h.len h.items (filled_but h.len h.at) room $

@@ -3,6 +3,7 @@ pub mod Asking
 pub mod Bag
 pub mod Bounds
 pub mod Building
+pub mod Choosing
 pub mod Contents
 pub mod Drain
 pub mod DrainSorted

@@ -1,13 +1,12 @@
-//! The choice of the greatest among the siblings of a row, whole or cut off by the slice's end.
+//! The choice of the greatest child of a place, and of the last if several are equal.
 //!
 //! A whole row has two forms of it, with the same contract, result and comparisons. One computes the place
 //! without a branch, so the load of the next row waits for this one. The other branches: the processor
 //! guesses, and loads the next row before the choice is known. A wrong guess costs some 20 cycles, and a
 //! row that comes from main memory some 300.
-ghost use Rattle.std.specs.Prelude.{◌≡◌, ◌+◌, ◌-◌, ◌*◌, ◌<◌, ◌≤◌, ℕ, length, min, if◌then◌else◌};
-ghost use Rattle.std.specs.Bool.{OnTrue, OnFalse};
-ghost use Rattle.dary_heap.specs.HeapOrder.{arity, IsLastGreatestChild};
-ghost use Rattle.dary_heap.specs.Moving.{Chooses, IsBelow};
+ghost use Rattle.std.specs.Prelude.{◌≡◌, ◌+◌, ◌-◌, ◌/◌, ◌≤◌, ℕ, if◌then◌else◌};
+ghost use Rattle.dary_heap.specs.HeapOrder.{arity};
+ghost use Rattle.dary_heap.specs.Choosing.{Chooses, FindsGreatestChild, IsAt, IsBelow};
 ghost use Rattle.dary_heap.specs.Sifting.{IsLastGreatest};
 
 use super::Judge;
@@ -103,75 +102,56 @@ fn last_greatest<T, J: Judge<T>, const GUESSES: bool>(
     best
 }
 
-/// Returns the place of the last greatest item of a whole row.
+/// Returns the last greatest child of the hole, which is at `at` of `len` places, or `None` if it has none.
 #[inline(always)]
-fn greatest_of_whole<T, J: Judge<T>, const D: usize, const GUESSES: bool>(
+pub(super) fn greatest_child<T, J: Judge<T>, const D: usize, const GUESSES: bool>(
     hole: &Hole<T>,
-    first: usize,
+    at: usize,
+    len: usize,
     judge: &mut J,
-) -> usize
-    requires { IsBelow hole.now first (first + arity D) }
-    ensures { Chooses J.order first (first + arity D) result hole.now.items (J.count judge.old) (J.count judge.new) }
+) -> Option<usize>
+    requires { IsAt hole.now at len }
+    ensures { FindsGreatestChild J.order D hole.now result (J.count judge.old) (J.count judge.new) }
 {
+    let arity = D.max(1);
+    if (len - 1) / arity <= at {
+        return greatest_of_cut::<T, J, D>(hole, at, len, judge);
+    }
+    let first = at * arity + 1;
     if GUESSES {
-        return last_greatest::<T, J, true>(hole, first, first + D.max(1), judge);
+        return Some(last_greatest::<T, J, true>(hole, first, first + arity, judge));
     }
-    if D == 2 {
-        return greatest_of_two(hole, first, judge);
-    }
-    if D == 3 {
-        return greatest_of_three(hole, first, judge);
-    }
-    if D == 4 {
-        return greatest_of_four(hole, first, judge);
-    }
-    if D == 8 {
-        return greatest_of_eight(hole, first, judge);
-    }
-    last_greatest::<T, J, false>(hole, first, first + D.max(1), judge)
+    Some(match D {
+        2 => greatest_of_two(hole, first, judge),
+        3 => greatest_of_three(hole, first, judge),
+        4 => greatest_of_four(hole, first, judge),
+        8 => greatest_of_eight(hole, first, judge),
+        _ => last_greatest::<T, J, false>(hole, first, first + arity, judge),
+    })
 }
 
-/// Returns the place of the last greatest item of a row that is cut off at `end`.
+/// The same if no whole row is below the hole. One place may have some children, which are the last places.
 #[inline(always)]
 fn greatest_of_cut<T, J: Judge<T>, const D: usize>(
     hole: &Hole<T>,
-    first: usize,
-    end: usize,
+    at: usize,
+    len: usize,
     judge: &mut J,
-) -> usize
-    requires below { IsBelow hole.now first end }
-    requires short { end < first + arity D }
-    ensures { Chooses J.order first end result hole.now.items (J.count judge.old) (J.count judge.new) }
+) -> Option<usize>
+    requires here { IsAt hole.now at len }
+    requires cut { (len - 1) / arity D ≤ at }
+    ensures { FindsGreatestChild J.order D hole.now result (J.count judge.old) (J.count judge.new) }
 {
-    if D <= 2 {
-        return first;
+    let arity = D.max(1);
+    let count = (len - 1) % arity;
+    if count == 0 || (len - 1) / arity < at {
+        return None;
     }
-    if end - first == 2 {
-        return greatest_of_two(hole, first, judge);
-    }
-    if end - first == 3 {
-        return greatest_of_three(hole, first, judge);
-    }
-    last_greatest::<T, J, false>(hole, first, end, judge)
-}
-
-/// Returns the place of the last greatest of siblings below the hole. They begin at `first`; either the
-/// row is whole, or the slice's end cuts it off.
-#[inline(always)]
-pub(super) fn greatest_sibling<T, J: Judge<T>, const D: usize, const GUESSES: bool>(
-    hole: &Hole<T>,
-    first: usize,
-    is_whole: bool,
-    judge: &mut J,
-) -> usize
-    requires some { IsBelow hole.now first (length hole.now.items) }
-    requires whole { OnTrue is_whole (first + arity D ≤ length hole.now.items) }
-    requires cut { OnFalse is_whole (length hole.now.items < first + arity D) }
-    ensures greatest { (place : ℕ) → first ≡ place * arity D + 1 → IsLastGreatestChild J.order D place result hole.now.items }
-    ensures counted { J.count judge.new + 1 ≡ J.count judge.old + min (arity D) (length hole.now.items - first) }
-{
-    if is_whole {
-        return greatest_of_whole::<T, J, D, GUESSES>(hole, first, judge);
-    }
-    greatest_of_cut::<T, J, D>(hole, first, hole.len(), judge)
+    let first = len - count;
+    Some(match count {
+        1 => first,
+        2 => greatest_of_two(hole, first, judge),
+        3 => greatest_of_three(hole, first, judge),
+        _ => last_greatest::<T, J, false>(hole, first, len, judge),
+    })
 }

@@ -3,7 +3,7 @@ use Rattle.dary_heap.specs.Sifting.{IsLastGreatest}
 use Rattle.dary_heap.proofs.sift.choice.greatest_of_four.Goals as goal
 
 pub overflow_add-first : goal.overflow_add-first
-overflow_add-first g c = record { fits = omega (arith, c.requires.within, c.requires.fits) }
+overflow_add-first g c = record { fits = omega (arith, c.requires.within, c.args.hole.now.small, c.args.hole.now.ok.0) }
 
 pub returns : goal.returns
 returns g c =

@@ -10,14 +10,14 @@ stepped true n = refl
 stepped false n = omega arith
 
 pub overflow_add-first : goal.overflow_add-first
-overflow_add-first g c = record { fits = omega (arith, c.requires.within, c.requires.fits) }
+overflow_add-first g c = record { fits = omega (arith, c.requires.within, c.args.hole.now.small, c.args.hole.now.ok.0) }
 
 pub overflow_add-result : goal.overflow_add-result
 overflow_add-result g c = record { fits = at_most c.at_most.result }
   where
     at_most : (t : Bool) → c.args.first + bool_byte t < 2 ^ 64
-    at_most true = omega (arith, c.requires.within, c.requires.fits)
-    at_most false = omega (arith, c.requires.within, c.requires.fits)
+    at_most true = omega (arith, c.requires.within, c.args.hole.now.small, c.args.hole.now.ok.0)
+    at_most false = omega (arith, c.requires.within, c.args.hole.now.small, c.args.hole.now.ok.0)
 
 pub returns : goal.returns
 returns g c =

@@ -37,7 +37,7 @@ use Rattle.core.proofs.slots.Bodies.{after, says_four}
 use Rattle.core.proofs.slots.Places.{sz, besides, value_out, room_in}
 use Rattle.core.specs.Mem.Slots.Ownership.{slots}
 use Rattle.dary_heap.specs.Places.{all_filled, filled_but}
-use Rattle.dary_heap.specs.declared.hole.places.Others.{Others}
+use Rattle.dary_heap.specs.declared.hole.places.Hole.{Hole}
 use Rattle.dary_heap.specs.declared.hole.places.Places.{Places}
 use Rattle.dary_heap.specs.contracts.hole.places.Places.take as f
 use Rattle.dary_heap.specs.contracts.hole.places.Places.take.Key.{name}
@@ -70,7 +70,7 @@ take_spec 𝓤 𝓛 𝓜 𝓡 wired X L =
     let count : n ≡ length xs = p.ok in let marks : length (all_filled n) ≡ n = length-replicate n true in
     let i_n : i < n = omega arith in let one : sz E < 2 ^ 64 = size_fits E n i i_n room in let reach : i * sz E < 2 ^ 64 = offset_fits E n i i_n room in let i_marks : i < length (all_filled n) = omega arith in
     let d : el_x E = hd xs (omega arith) in let x : el_x E = get_or xs i d in
-    let rest : Others (el_x E) = record { ptr = block_ptr b o; len = n; items = xs; at = i; ok = (count, i_n); small = room.0 } in
+    let rest : Hole (el_x E) = record { ptr = block_ptr b o; len = n; items = xs; at = i; ok = (count, i_n); small = room.0 } in
     regoal ! (λ (us : List Val). prop (WpFn 𝓤 𝓛.H 𝓣.C 𝓣.Λ (body E) (us ++ (vint w64 i ∷ [])) (W.post y))) is refl $
     use1 𝓛 (some (λ (v : Val). given (Good E v) (‵ (fat full_share (elτ E) b (i * sz E + o) v) ⊛ ‵ (X.own_val x (v ∷ [])) ⊛ ‵ (besides E b o xs (all_filled n) i))))
     (value_out E 𝓛 b o xs (all_filled n) i within_xs i_marks d (get_or-replicate n i true false i_n)) $

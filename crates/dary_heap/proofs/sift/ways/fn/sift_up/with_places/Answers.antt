@@ -1,0 +1,15 @@
+use Rattle.std.proofs.Common.{List, length, subst, ap, ◌∙◌}
+use Rattle.std.proofs.lemmas.List.Sorted.{length_permutation}
+use Rattle.dary_heap.specs.Moving.{SiftsUp}
+use Rattle.dary_heap.proofs.Holes.{taken}
+use Rattle.dary_heap.proofs.sift.ways.fn.sift_up.with_places.Goals as goal
+
+pub returns : goal.returns
+returns g c =
+    let hole = c.take-hole.ensures in
+    let whole = taken c.args.places.items c.take-hole.result.0 _ _ hole.items hole.at hole.taken in
+    let sifted = c.sift_hole_up.ensures.sifted in
+    record {
+      same_slice = record { slice = c.sift_hole_up.ensures.slice ∙ hole.slice; len = length_permutation _ _ sifted.permutation ∙ ap length whole };
+      sifted = subst (λ (items : List g.row.T.Denot). SiftsUp g.J.Judge.order g.row.D c.captures.place items c.sift_hole_up.result.items (g.J.Judge.count c.args.judge.now) (g.J.Judge.count c.sift_hole_up.new.judge)) whole sifted;
+    }
