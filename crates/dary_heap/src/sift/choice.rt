@@ -130,7 +130,7 @@ pub(super) fn greatest_child<T, J: Judge<T>, const D: usize, const GUESSES: bool
     })
 }
 
-/// The same if no whole row is below the hole. One place may have some children, which are the last places.
+/// The same if no whole row is below the hole: its children are the last places, if it has any.
 #[inline(always)]
 fn greatest_of_cut<T, J: Judge<T>, const D: usize>(
     hole: &Hole<T>,
@@ -143,15 +143,15 @@ fn greatest_of_cut<T, J: Judge<T>, const D: usize>(
     ensures { FindsGreatestChild J.order D hole.now result (J.count judge.old) (J.count judge.new) }
 {
     let arity = D.max(1);
-    let count = (len - 1) % arity;
-    if count == 0 || (len - 1) / arity < at {
+    if (len - 1) / arity < at {
         return None;
     }
-    let first = len - count;
-    Some(match count {
-        1 => first,
-        2 => greatest_of_two(hole, first, judge),
-        3 => greatest_of_three(hole, first, judge),
-        _ => last_greatest::<T, J, false>(hole, first, len, judge),
-    })
+    let first = at * arity + 1;
+    match len - first {
+        0 => None,
+        1 => Some(first),
+        2 => Some(greatest_of_two(hole, first, judge)),
+        3 => Some(greatest_of_three(hole, first, judge)),
+        _ => Some(last_greatest::<T, J, false>(hole, first, len, judge)),
+    }
 }
