@@ -147,11 +147,17 @@ fn greatest_of_cut<T, J: Judge<T>, const D: usize>(
         return None;
     }
     let first = at * arity + 1;
-    match len - first {
-        0 => None,
-        1 => Some(first),
-        2 => Some(greatest_of_two(hole, first, judge)),
-        3 => Some(greatest_of_three(hole, first, judge)),
-        _ => Some(last_greatest::<T, J, false>(hole, first, len, judge)),
+    let count = len - first;
+    if count == 0 {
+        return None;
     }
+    if D <= 2 {
+        return Some(first);
+    }
+    Some(match count {
+        1 => first,
+        2 => greatest_of_two(hole, first, judge),
+        3 => greatest_of_three(hole, first, judge),
+        _ => last_greatest::<T, J, false>(hole, first, len, judge),
+    })
 }
