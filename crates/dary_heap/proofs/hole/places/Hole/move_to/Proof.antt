@@ -80,7 +80,7 @@ move_to_spec 𝓤 𝓛 𝓜 𝓡 wired X L =
     use1 𝓛 (some (λ (v : Val). given (Good E v) (‵ (fat full_share (elτ E) b (place * sz E + o) v) ⊛ ‵ (X.own_val x (v ∷ [])) ⊛ ‵ (besides E b o xs fs place))))
     (value_out E 𝓛 b o xs fs place p_xs p_fs d (holds_other n at place p_n other.1)) $
     pick ! (λ v. learn ! (λ gv. split3 ! $
-    -- [the item's cell; the item; the other places; the two words; the open borrow, in three entries; the last token]
+    -- [the cell of the item that moves, and the item; the rest of the slice; pointer and length; three entries of the open borrow; a token]
     first ! $ blocks ! $
     sets ! (of_opd ! (load ! (through ! refl (fld ! refl (stop !))) (look_in ! 3 (sub ! 0 refl (whole !))))) refl (tt, tt) $
     sets ! (bin ! (get ! refl) (size_lit ! (record { fits = one })) (record { fits = to })) refl (tt, record { fits = to }) $
