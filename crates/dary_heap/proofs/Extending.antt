@@ -42,6 +42,7 @@ mended {D = D} old new xs now start is from long bag still ordered counted capac
   bag = rw is at bag;
   unchanged = λ none. let same : now ≡ old.items = is ∙ ap (λ ys. old.items ++ ys) none ∙ append-nil old.items in still (from ∙ ap length (sym same)) ∙ same;
   ordered = ordered;
+  len = omega (arith, ap length is, length-append old.items xs, long);
   counted = subst (λ n. RisesWithin old.comparisons new.comparisons (mend_bound D n (n - length old.items))) long (subst (λ m. RisesWithin old.comparisons new.comparisons (mend_bound D (length now) (length now - m))) from counted);
   capacity = capacity;
 }

@@ -19,6 +19,7 @@ pub mod SiftingDown
 pub mod Written
 pub mod Loans
 pub mod Lowering
+pub mod Sorting
 pub mod Tail
 pub mod Uncounted
 pub mod Filtering
@@ -33,6 +34,7 @@ pub mod States
 pub mod SameReplies
 pub mod SameStates
 pub mod Bags
+pub mod Bounded
 pub mod BelowRoot
 pub mod Cheapest
 pub mod Apart

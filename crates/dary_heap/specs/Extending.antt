@@ -25,5 +25,6 @@ pub record IsExtended {T : Type 0} (cmp : T → T → Ordering) (D : ℕ) (old :
   -- if none came in, they stay as they were
   pub unchanged : xs ≡ [] → new.items ≡ old.items
   pub ordered : IsHeapOrdered cmp D new.items
+  pub len : length new.items ≡ length old.items + length xs
   pub counted : RisesWithin old.comparisons new.comparisons (mend_bound D (length new.items) (length new.items - length old.items))
   pub capacity : old.capacity ≤ new.capacity

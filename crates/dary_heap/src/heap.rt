@@ -8,6 +8,7 @@
 //! `dary_heap`. `docs/RULES.md` has the rules that they follow, and `docs/DIFFERENCES.md` what
 //! differs from the crate.
 ghost use Rattle.std.specs.Prelude.{◌≡◌, ◌+◌, ◌-◌, ◌<◌, ◌≤◌, ◌↔◌, [], ◌∷◌, ℕ, length, slice_get, vec_capacity, Some, IsSome, IfSome, IfNone, OnOk, OnErr, IfErr, IsOk, is_ok, if◌then◌else◌, ◌==◌};
+ghost use Rattle.std.specs.BinaryHeap.{IsUpperBound};
 ghost use Rattle.std.specs.Option.{option_copied};
 ghost use Rattle.dary_heap.specs.Bag.{IsSameBag, IsGreatest};
 ghost use Rattle.dary_heap.specs.Bounds.{RisesWithin, push_bound, pop_bound};
@@ -267,6 +268,7 @@ impl<T: Ord, const D: usize> DaryHeap<T, D> {
         ensures variant { IsSome result ↔ (0 < length self.now.items) }
         ensures first { option_copied result ≡ slice_get self.now.items 0 }
         ensures greatest { IfSome result (λ item. IsGreatest T.cmp self.now.items item.now) }
+        ensures above_all { IfSome result (λ item. IsUpperBound T.cmp item.now self.now.items) }
         ensures ordered { IsHeapOrdered T.cmp D self.now.items }
     {
         self.items.as_slice().first()
@@ -341,6 +343,7 @@ impl<T: Ord, const D: usize> DaryHeap<T, D> {
         ensures variant { IsSome result ↔ (0 < length self.old.items) }
         ensures first { result ≡ slice_get self.old.items 0 }
         ensures greatest { IfSome result (IsGreatest T.cmp self.old.items) }
+        ensures below_top { IfSome result (λ item. IsUpperBound T.cmp item self.new.items) }
         ensures bag { IfSome result (λ item. IsSameBag self.old.items (item ∷ self.new.items)) }
         ensures len { length self.new.items ≡ length self.old.items - 1 }
         ensures ordered { IsHeapOrdered T.cmp D self.new.items }

@@ -87,6 +87,7 @@ impl<T: Ord, const D: usize> DaryHeap<T, D> {
         T: Drop,
         requires { TakesInTurn F.FnMut f self.old.items }
         ensures retained { IsRetained (CalledAt F.FnMut) D f self.old self.new }
+        ensures len { length self.new.items ≤ length self.old.items }
         ensures ordered { IsHeapOrdered T.cmp D self.new.items }
         ensures capacity { self.new.capacity ≡ self.old.capacity }
     {

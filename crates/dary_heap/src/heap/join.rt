@@ -47,7 +47,9 @@ impl<T: Ord, const D: usize> DaryHeap<T, D> {
     pub fn append(&mut self, other: &mut Self) -> Result<(), AllocError>
         ensures bag { OnOk result (IsSameBag (self.old.items ++ other.old.items) self.new.items) }
         ensures emptied { OnOk result (other.new.items ≡ []) }
+        ensures len { OnOk result (length self.new.items ≡ length self.old.items + length other.old.items) }
         ensures ordered { IsHeapOrdered T.cmp D self.new.items }
+        ensures other_ordered { IsHeapOrdered T.cmp D other.new.items }
         ensures counted { OnOk result (RisesWithin self.old.comparisons self.new.comparisons (mend_bound D (length self.new.items) (min (length self.old.items) (length other.old.items)))) }
         ensures uncounted { other.new.comparisons ≡ other.old.comparisons }
         ensures capacity { OnOk result (receiving_capacity self.old other.old ≤ self.new.capacity) }

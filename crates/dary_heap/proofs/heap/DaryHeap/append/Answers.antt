@@ -1,5 +1,5 @@
-use Rattle.std.proofs.Common.{◌++◌, length, ap, arith}
-use Rattle.std.proofs.lemmas.List.Sorted.{IsPermutation-append_comm, IsPermutation-trans}
+use Rattle.std.proofs.Common.{◌++◌, length, length-append, ap, arith}
+use Rattle.std.proofs.lemmas.List.Sorted.{IsPermutation-append_comm, IsPermutation-trans, length_permutation}
 use Rattle.dary_heap.proofs.heap.DaryHeap.append.Goals as goal
 use Rattle.dary_heap.proofs.heap.DaryHeap.append.Goals.{then-len+in_ok-reserve, else-len+in_ok-reserve-2}
 
@@ -26,3 +26,9 @@ returns-clause-same_items g c = λ none.
           let kept = rw w.reserve-else-len.ensures.items at placed in
           rw (← c.self.view_is) (kept empty)
     ]
+
+pub returns-clause-len : goal.returns-clause-len
+returns-clause-len g c =
+    let xs = c.args.self.now.items in
+    let ys = c.args.other.now.items in
+    omega (arith, length_permutation (xs ++ ys) _ (returns-clause-bag g c), length-append xs ys)

@@ -1,6 +1,7 @@
 use Rattle.std.proofs.Common.{◌≡◌, ◌↔◌, ◌<◌, List, [], ◌∷◌, length, refl, sym, subst, arith, Option, Some, None, IsSome, IfSome, slice_get}
 use Rattle.dary_heap.specs.Bounds.{RisesWithin, pop_bound}
 use Rattle.dary_heap.proofs.BelowRoot.{below_root}
+use Rattle.dary_heap.proofs.Bounded.{popped_bound}
 use Rattle.dary_heap.proofs.Order.{popped}
 use Rattle.dary_heap.proofs.heap.DaryHeap.pop.Goals as goal
 
@@ -36,3 +37,6 @@ returns-clause-counted g c = rw (← c.self.view_is) (subst (λ n. RisesWithin c
 
 pub returns-clause-capacity : goal.returns-clause-capacity
 returns-clause-capacity g c = rw (← c.self.view_is) c.pop_with.ensures.capacity
+
+pub returns-clause-below_top : goal.returns-clause-below_top
+returns-clause-below_top g c = popped_bound g.met.T.Ord.total _ _ c.pop_with.result (returns-clause-greatest g c) (returns-clause-bag g c)

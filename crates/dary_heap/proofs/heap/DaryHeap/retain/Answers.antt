@@ -3,7 +3,7 @@ use Rattle.std.specs.List.{items_where_true}
 use Rattle.dary_heap.specs.Bounds.{RisesWithin, mend_bound}
 use Rattle.dary_heap.specs.Filtering.{first_no}
 use Rattle.dary_heap.specs.HeapOrder.{IsHeapOrdered}
-use Rattle.dary_heap.proofs.Filtering.{picked-all, picked-front, length-picked, first_no-within}
+use Rattle.dary_heap.proofs.Filtering.{picked-all, picked-front, length-picked, length-picked_most, first_no-within}
 use Rattle.dary_heap.proofs.Tail.{front-ordered}
 use Rattle.dary_heap.proofs.Written.{written_back, same_contents}
 use Rattle.dary_heap.proofs.heap.DaryHeap.retain.Goals as goal
@@ -56,3 +56,12 @@ returns-clause-retained g c =
           same_contents _ _ (written_back _ zs _ all ∙ c.mend_with.ensures.unchanged last ∙ whole) c.keep-start.ensures.capacity (omega arith);
       counted = rw (written_back _ zs _ all) (subst (λ m. RisesWithin c.self.inside.judge c.mend_with.new.judge (mend_bound g.row.D m (m - first_no k.0))) long (subst (λ m. RisesWithin c.self.inside.judge c.mend_with.new.judge (mend_bound g.row.D (length now) (length now - m))) k.5 c.mend_with.ensures.counted));
     }
+
+pub returns-clause-len : goal.returns-clause-len
+returns-clause-len g c =
+    let k = c.keep-start.ensures.kept in
+    let xs = c.self.inside.items.items in
+    let zs = c.mend_with.new.items in
+    let all : length zs ≡ c.keep-start.new.items.len = omega arith in
+    let long : length c.as_mut_slice.result.now ≡ length zs = omega arith in
+    rw (← c.self.view_is) (rw (written_back _ zs _ all) (omega (arith, long, ap length (c.as_mut_slice.ensures.value ∙ k.4), length-picked_most k.0 xs)))
