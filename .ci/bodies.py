@@ -1,0 +1,96 @@
+"""The files of the wrong bodies: what each says, the edit that it makes, and the tables of them all."""
+import pathlib
+import re
+from dataclasses import dataclass, field
+
+TOP = pathlib.Path(__file__).resolve().parent.parent
+NEEDED = ("turns", "body", "breaks", "case")
+START, END = "<!-- The tables are made by `.ci/wrong_bodies --table`. -->\n", "<!-- Here the tables end. -->\n"
+
+
+@dataclass
+class Body:
+    crate: str
+    name: str
+    says: dict = field(default_factory=dict)
+    pairs: list = field(default_factory=list)
+
+    def fault(self):
+        """Returns what is wrong with the file, if anything is."""
+        lacking = [word for word in NEEDED if not self.says.get(word)]
+        if lacking or not self.breaks():
+            return f"it has no line '{[*lacking, 'breaks'][0]}:', or one without a clause"
+        is_sound = self.pairs and all(re.match(r"(src|specs|proofs)/(?!.*\.\.)", file) and old for file, old, _ in self.pairs)
+        return None if is_sound else "it has no 'old:' and 'new:', or some for no 'file:' below src, specs or proofs"
+
+    def functions(self):
+        """Returns the function that it turns, and the callers that may have to refuse it."""
+        return [it.strip() for it in [self.says["turns"], *self.says.get("callers", "").split(",")] if it.strip()]
+
+    def breaks(self):
+        """Returns the clauses that it breaks, each with the names of the functions of which one has to refuse it."""
+        found = re.findall(r"`([^`]+)`(?: of `([^`]+)`)?", self.says["breaks"])
+        return [(clause, {last(it) for it in ([of] if of else self.functions())}) for clause, of in found]
+
+    def is_local(self):
+        """Returns whether it edits nothing but the text of the function that it turns, and that function's own proof."""
+        own, crate = last(self.says["turns"]), TOP / "crates" / self.crate
+        return all(own in (file.split("/") if file.startswith("proofs/") else [holder(crate / file, old)]) for file, old, _ in self.pairs)
+
+    def edit(self, folder):
+        """Makes its edits in a copy of the crate, whose files may be links to others, or none and returns why not."""
+        texts, gone = {}, [self.says["without"]] if "without" in self.says else []
+        for file in [*gone, *[file for file, _, _ in self.pairs]]:
+            if not (folder / file).is_file():
+                return f"there is no file {file}"
+        for file, old, new in self.pairs:
+            text = texts.get(file) or (folder / file).read_text(encoding="utf-8")
+            if text.count(old) != 1:
+                return f"{file} has the text of an 'old:' {text.count(old)} times, and not once: {old.strip()}"
+            texts[file] = text.replace(old, new)
+        for file in {*texts, *gone}:
+            (folder / file).unlink()
+        for file, text in texts.items():
+            (folder / file).write_text(text, encoding="utf-8")
+        return None
+
+
+def last(function):
+    return function.split("::")[-1]
+
+
+def holder(path, text):
+    """Returns the name of the function in whose code a text of a file stands, or that it begins."""
+    before, found, _ = path.read_text(encoding="utf-8").partition(text) if path.is_file() else ("", "", "")
+    return [None, *re.findall(r"\bfn (\w+)", before + found)][-1]
+
+
+def read(path):
+    body, file, old = Body(path.parent.parent.name, path.stem), "", ""
+    for line in path.read_text(encoding="utf-8").splitlines():
+        word, _, text = line.partition(":")
+        text = text.removeprefix(" ")
+        if word in (*NEEDED, "callers", "without"):
+            body.says[word] = text.strip()
+        elif word == "file":
+            file = text.strip()
+        elif word == "old":
+            old = text
+        elif word == "new":
+            body.pairs.append((file, old, text))
+            old = ""
+    return body
+
+
+def read_all():
+    return [read(it) for kind in ("must-fail", "wrong_bodies") for it in sorted(TOP.glob(f"crates/*/{kind}/*.edit"))]
+
+
+def document(text, bodies):
+    """Returns a document's text with the tables of these bodies: one a crate."""
+    lines = []
+    for crate in dict.fromkeys(it.crate for it in bodies):
+        rows = sorted((it.says["turns"], it.name, it.says["body"], it.says["breaks"]) for it in bodies if it.crate == crate)
+        lines += ["", f"### `{crate}`", "", "|name|function|what the body does|breaks|", "|---|---|---|---|"]
+        lines += [f"|`{name}`|`{turns}`|{body}|{breaks}|" for turns, name, body, breaks in rows]
+    return text.partition(START)[0] + START + "\n".join([*lines, "", ""]) + END + text.partition(END)[2]

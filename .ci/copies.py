@@ -1,0 +1,72 @@
+"""Copies of the crates: one in which they are proved, and one more for each check of bodies."""
+import contextlib
+import itertools
+import re
+import shutil
+import subprocess
+from concurrent.futures import ThreadPoolExecutor
+
+from bodies import TOP
+
+PARTS = ("src", "specs", "proofs")
+
+
+def rt(folder, *words):
+    """Runs a command of `rt`, and returns its status and what it said."""
+    how = {"stdin": subprocess.DEVNULL, "stdout": subprocess.PIPE, "stderr": subprocess.STDOUT}
+    ran = subprocess.run(["rt", *words], cwd=folder, encoding="utf-8", errors="replace", **how)
+    return ran.returncode, ran.stdout.splitlines()
+
+
+def with_libraries(crate):
+    """Returns a crate and the repository's libraries below it, by crates.txt."""
+    rows = [line.partition("#")[0].partition(":") for line in (TOP / "crates.txt").read_text().splitlines()]
+    named = {head.split()[0]: deps.split() for head, _, deps in rows if head.split()}
+    return {crate}.union(*[with_libraries(dep) for dep in named[crate] if dep in named])
+
+
+def depth(crate):
+    return len(with_libraries(crate))
+
+
+def begin(room, crates):
+    """Makes a folder a repository of some crates, which it has not yet."""
+    (room / "crates").mkdir(parents=True, exist_ok=True)
+    rows = (TOP / "crates.txt").read_text().splitlines(keepends=True)
+    (room / "crates.txt").write_text("".join(it for it in rows if re.split(r"\W", it)[0] in crates))
+    shutil.copy(TOP / "HANDLES", room)
+
+
+class Copies:
+    def __init__(self, room, crates):
+        """Proves crates and those below them in a folder, over what an earlier run kept there."""
+        self.tree, self.rooms = room / "tree", room / "bodies"
+        shutil.rmtree(self.rooms, ignore_errors=True)
+        crates = set().union(*[with_libraries(it) for it in crates])
+        begin(self.tree, crates)
+        for given, to in [(TOP / "crates" / it / part, self.tree / "crates" / it / part) for it in crates for part in PARTS]:
+            shutil.rmtree(to, ignore_errors=True)
+            if given.is_dir():
+                shutil.copytree(given, to)
+        for _, level in itertools.groupby(sorted(crates, key=depth), depth):
+            jobs = ["--jobs", "1"] if len(level := [*level]) > 1 else []
+            with ThreadPoolExecutor() as pool:
+                list(pool.map(lambda crate: self.prove(crate, jobs), level))
+
+    def prove(self, crate, jobs):
+        print(f"{crate}: proving the crate itself", flush=True)
+        status, said = rt(self.tree / "crates" / crate, "check", *jobs)
+        if status:
+            raise SystemExit("\n".join([f"{crate} is not proved:", *[it for it in said if re.search("error|not proved", it)], said[-1]]))
+
+    @contextlib.contextmanager
+    def copy(self, crate, name):
+        """Lends a copy of a crate's folder, beside those of the libraries below it: `rt` locks the folders that it works in.
+        The files are links, since what the prover keeps it writes anew, and never into a file."""
+        room, crates = self.rooms / f"{crate} {name}", with_libraries(crate)
+        try:
+            begin(room, crates)
+            subprocess.run(["cp", "-al", *[self.tree / "crates" / it for it in crates], room / "crates"], check=True)
+            yield room / "crates" / crate
+        finally:
+            shutil.rmtree(room, ignore_errors=True)
