@@ -61,4 +61,8 @@ impl Item for Counted {
     fn is_odd(&self) -> bool {
         self.0.is_odd()
     }
+
+    fn lowered(&self, by: &Counted) -> Counted {
+        Counted(self.0.lowered(&by.0))
+    }
 }

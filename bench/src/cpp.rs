@@ -33,7 +33,8 @@ pub trait InCpp: Item {
 /// Whether the heap makes the call. boost's has no build, and its arity is 2 at least.
 pub fn makes(heap: Heap, call: Call, arity: usize) -> bool {
     let is_made = match call {
-        Call::Copy | Call::Hold | Call::Push | Call::Pop | Call::Churn => true,
+        Call::Copy | Call::Hold | Call::Push | Call::Reserved => true,
+        Call::Pop | Call::Churn | Call::Turns => true,
         Call::Build => heap == Heap::Std,
         _ => false,
     };
@@ -74,6 +75,8 @@ mod there {
             Call::Push => Some(3),
             Call::Pop => Some(4),
             Call::Churn => Some(5),
+            Call::Reserved => Some(6),
+            Call::Turns => Some(7),
             _ => None,
         }
     }

@@ -44,6 +44,11 @@ fn placed<T: Draw>(given: Given, arity: usize, mut items: Vec<T>) -> Vec<T> {
             items.sort_unstable();
             items
         }
+        Given::Descending => {
+            items.sort_unstable();
+            items.reverse();
+            items
+        }
         Given::HeapOrdered => heap_ordered(arity, items),
     }
 }

@@ -13,6 +13,11 @@ pub trait Item: Ord + Clone {
     fn mark(&self) -> Self::Mark;
     fn flat(items: &[Self]) -> Self::Flat;
     fn is_odd(&self) -> bool;
+
+    /// A number less by the low bits of another, a 64th of all numbers at most. Other items stay as they are.
+    fn lowered(&self, _by: &Self) -> Self {
+        self.clone()
+    }
 }
 
 /// An item that can be drawn.
@@ -32,6 +37,10 @@ impl Item for i64 {
 
     fn is_odd(&self) -> bool {
         self & 1 != 0
+    }
+
+    fn lowered(&self, by: &i64) -> i64 {
+        self.wrapping_sub(by & 0x03ff_ffff_ffff_ffff)
     }
 }
 

@@ -1,8 +1,11 @@
-//! The heap of this repository, as the functions of the static library `dary_heap_bench`.
+//! The heap of this repository and Rattle's own, as the functions of the static library `dary_heap_bench`.
 
 use crate::items::{Entry, Item, Record};
 use crate::search::Graph;
 use crate::workload::{Call, Task};
+
+/// What stands for Rattle's own heap in place of an arity.
+pub const RATTLE_STD: usize = 0;
 
 /// Functions of an arity, the items, and where items are written to.
 macro_rules! functions_of_items {
@@ -78,6 +81,7 @@ functions_of_items! { i64:
     bench_hold_i64 bench_hold_counted
     bench_build_i64 bench_build_counted
     bench_push_i64 bench_push_counted
+    bench_reserved_i64 bench_reserved_counted
     bench_pop_i64 bench_pop_counted
     bench_retain_i64 bench_retain_counted
     bench_sorted_i64 bench_sorted_counted
@@ -96,7 +100,7 @@ functions_of_items! { Record:
     bench_copy_records bench_hold_records bench_build_records bench_push_records bench_pop_records
 }
 
-functions_of_churn! { i64: bench_churn_i64 bench_churn_counted }
+functions_of_churn! { i64: bench_churn_i64 bench_churn_counted bench_turns_i64 bench_turns_counted }
 
 functions_of_churn! { Entry: bench_churn_entries }
 
@@ -237,9 +241,14 @@ fn on_numbers(
         Call::Hold => [bench_hold_i64, bench_hold_counted],
         Call::Build => [bench_build_i64, bench_build_counted],
         Call::Push => [bench_push_i64, bench_push_counted],
+        Call::Reserved => [bench_reserved_i64, bench_reserved_counted],
         Call::Pop => [bench_pop_i64, bench_pop_counted],
         Call::Churn => {
             let functions = [bench_churn_i64, bench_churn_counted];
+            return churn(functions[which], arity, task, out);
+        }
+        Call::Turns => {
+            let functions = [bench_turns_i64, bench_turns_counted];
             return churn(functions[which], arity, task, out);
         }
         Call::Extend => {
@@ -284,7 +293,14 @@ fn of_pieces(function: OfPieces, arity: usize, task: &Task<i64>, out: &mut [i64]
     let place = out.as_mut_ptr();
     // SAFETY: as in `of_items`.
     granted(unsafe {
-        function(arity, items.as_ptr(), items.len(), place, out.len(), task.piece)
+        function(
+            arity,
+            items.as_ptr(),
+            items.len(),
+            place,
+            out.len(),
+            task.piece,
+        )
     })
 }
 

@@ -1,6 +1,6 @@
 //! Times the rivals by turns, and compares what they wrote.
 
-use crate::rivals::{Agreement, Input, Rival, BOOST, CPP, CRATE, HERE, STD};
+use crate::rivals::{Agreement, Input, Rival, BOOST, CPP, CRATE, HERE, RATTLE_STD, STD};
 use std::fmt;
 use std::time::{Duration, Instant};
 
@@ -29,14 +29,14 @@ pub struct Figures {
 
 /// Those whose times this heap's is divided by, those whose times are printed, and those whose
 /// comparisons are.
-const DIVISORS: [&str; 4] = [CRATE, STD, CPP, BOOST];
-const TIMED: [&str; 5] = [HERE, CRATE, STD, CPP, BOOST];
+const DIVISORS: [&str; 5] = [CRATE, RATTLE_STD, STD, CPP, BOOST];
+const TIMED: [&str; 6] = [HERE, CRATE, RATTLE_STD, STD, CPP, BOOST];
 const COUNTED: [&str; 3] = [HERE, CRATE, STD];
 
 /// The heads of the columns of `Figures`.
 pub fn header() -> String {
-    let ratios = DIVISORS.map(|name| format!("{:>10}", format!("over_{name}")));
-    let times = TIMED.map(|name| format!("{:>9}", format!("{name}_ns")));
+    let ratios = DIVISORS.map(|name| format!("{:>15}", format!("over_{name}")));
+    let times = TIMED.map(|name| format!("{:>13}", format!("{name}_ns")));
     let comparisons = COUNTED.map(|name| format!("{:>17}", format!("{name}_comparisons")));
     [ratios.join(" "), times.join(" "), comparisons.join(" ")].join("  ")
 }
@@ -44,8 +44,8 @@ pub fn header() -> String {
 /// Ratios of times, nanoseconds an item, and comparisons an item, with a dash for what isn't there.
 impl fmt::Display for Figures {
     fn fmt(&self, f: &mut fmt::Formatter) -> fmt::Result {
-        let ratios = DIVISORS.map(|name| cell(10, 3, self.over(name)));
-        let times = TIMED.map(|name| cell(9, 2, self.nanoseconds(name)));
+        let ratios = DIVISORS.map(|name| cell(15, 3, self.over(name)));
+        let times = TIMED.map(|name| cell(13, 2, self.nanoseconds(name)));
         let comparisons = COUNTED.map(|name| cell(17, 3, self.comparisons(name)));
         write!(
             f,

@@ -7,6 +7,7 @@ use std::iter;
 /// A heap whose greatest item comes out first.
 pub trait Queue<T>: Sized {
     fn empty() -> Self;
+    fn with_room(room: usize) -> Self;
     /// The heap of the items in any order.
     fn of(items: Vec<T>) -> Self;
     /// The heap of items that are heap ordered at its arity, as they are if it has such a call.
@@ -24,6 +25,10 @@ pub trait Queue<T>: Sized {
 impl<T: Ord + Clone, const D: usize> Queue<T> for DaryHeap<T, D> {
     fn empty() -> Self {
         DaryHeap::new()
+    }
+
+    fn with_room(room: usize) -> Self {
+        DaryHeap::with_capacity(room)
     }
 
     fn of(items: Vec<T>) -> Self {
@@ -68,6 +73,10 @@ impl<T: Ord + Clone, const D: usize> Queue<T> for DaryHeap<T, D> {
 impl<T: Ord + Clone> Queue<T> for BinaryHeap<T> {
     fn empty() -> Self {
         BinaryHeap::new()
+    }
+
+    fn with_room(room: usize) -> Self {
+        BinaryHeap::with_capacity(room)
     }
 
     fn of(items: Vec<T>) -> Self {

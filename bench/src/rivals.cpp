@@ -49,6 +49,8 @@ template <typename T> struct Queue : std::priority_queue<T> {
     // It builds, also if the items are heap ordered.
     Queue(const T *items, std::size_t len) : Base(std::less<T>(), std::vector<T>(items, items + len)) {}
 
+    void reserve(std::size_t len) { this->c.reserve(len); }
+
     std::uint64_t write(T *out) const {
         std::copy(this->c.begin(), this->c.end(), out);
         return this->c.size();
@@ -88,6 +90,14 @@ template <typename T, typename Heap> std::uint64_t push(const T *items, std::siz
     return heap.write(out);
 }
 
+template <typename T, typename Heap> std::uint64_t reserved(const T *items, std::size_t len, T *out) {
+    Heap heap;
+    heap.reserve(len);
+    for (std::size_t at = 0; at < len; at++)
+        heap.push(items[at]);
+    return heap.write(out);
+}
+
 template <typename T, typename Heap> std::uint64_t pop(const T *items, std::size_t len, T *out) {
     Heap heap(items, len);
     std::uint64_t count = 0;
@@ -105,6 +115,25 @@ std::uint64_t churn(const T *items, std::size_t len, const T *more, std::size_t 
         heap.push(more[at]);
         out[at] = heap.top();
         heap.pop();
+    }
+    return more_len;
+}
+
+// As in items.rs.
+std::int64_t lowered(std::int64_t item, std::int64_t by) {
+    const std::uint64_t less = static_cast<std::uint64_t>(by) & 0x03ffffffffffffff;
+    return static_cast<std::int64_t>(static_cast<std::uint64_t>(item) - less);
+}
+
+template <typename T> T lowered(const T &item, const T &) { return item; }
+
+template <typename T, typename Heap>
+std::uint64_t turns(const T *items, std::size_t len, const T *more, std::size_t more_len, T *out) {
+    Heap heap(items, len);
+    for (std::size_t at = 0; at < more_len; at++) {
+        out[at] = heap.top();
+        heap.pop();
+        heap.push(lowered(out[at], more[at]));
     }
     return more_len;
 }
@@ -134,6 +163,10 @@ template <typename T, typename Heap> std::uint64_t call(unsigned number, const G
             return pop<T, Heap>(given.items, given.len, given.out);
         case 5:
             return churn<T, Heap>(given.items, given.len, given.more, given.more_len, given.out);
+        case 6:
+            return reserved<T, Heap>(given.items, given.len, given.out);
+        case 7:
+            return turns<T, Heap>(given.items, given.len, given.more, given.more_len, given.out);
         default:
             return REFUSED;
         }

@@ -1,4 +1,4 @@
-//! Those that are timed: the heap of this repository, the crate's, std's, and those of C++.
+//! Those that are timed: the heap of this repository, the crate's, std's of Rattle and of Rust, and those of C++.
 
 use crate::counting::{self, Counted};
 use crate::cpp::{self, Heap, InCpp};
@@ -11,6 +11,7 @@ use std::collections::BinaryHeap;
 
 pub const HERE: &str = "here";
 pub const CRATE: &str = "crate";
+pub const RATTLE_STD: &str = "rattle_std";
 pub const STD: &str = "std";
 pub const CPP: &str = "cpp";
 pub const BOOST: &str = "boost";
@@ -103,7 +104,7 @@ pub fn of_numbers(call: Call, arity: usize) -> Vec<Rival<Task<i64>>> {
     let std = in_rust(STD, of_std(call))
         .counted_by(counted(of_std(call)))
         .agreeing(agreement_of(call));
-    let mut rivals = vec![here, of_the_crate, std];
+    let mut rivals = vec![here, of_the_crate, rattle_std(call), std];
     rivals.extend(in_cpp(call, arity));
     rivals
 }
@@ -120,6 +121,7 @@ pub fn of_items<T: InLibrary + 'static>(call: Call, arity: usize) -> Vec<Rival<T
     vec![
         here(call, arity),
         in_rust(CRATE, of_crate(call, arity)),
+        rattle_std(call),
         in_rust(STD, of_std(call)).agreeing(agreement_of(call)),
     ]
 }
@@ -127,7 +129,7 @@ pub fn of_items<T: InLibrary + 'static>(call: Call, arity: usize) -> Vec<Rival<T
 /// How far a heap of another arity agrees.
 fn agreement_of(call: Call) -> Agreement {
     match call {
-        Call::Copy | Call::Pop | Call::Churn | Call::Sorted => Agreement::Equal,
+        Call::Copy | Call::Pop | Call::Churn | Call::Turns | Call::Sorted => Agreement::Equal,
         _ => Agreement::SameItems,
     }
 }
@@ -135,6 +137,13 @@ fn agreement_of(call: Call) -> Agreement {
 fn here<T: InLibrary>(call: Call, arity: usize) -> Rival<Task<T>> {
     let run = move |task: &Task<T>, out: &mut [T::Mark]| T::run(call, arity, task, out);
     Rival::new(HERE, Box::new(run))
+}
+
+/// Rattle's own heap.
+fn rattle_std<T: InLibrary>(call: Call) -> Rival<Task<T>> {
+    let run =
+        move |task: &Task<T>, out: &mut [T::Mark]| T::run(call, library::RATTLE_STD, task, out);
+    Rival::new(RATTLE_STD, Box::new(run)).agreeing(agreement_of(call))
 }
 
 fn in_rust<T: Item + 'static>(name: &'static str, work: Work<T>) -> Rival<Task<T>> {

@@ -14,8 +14,12 @@ pub enum Call {
     Hold,
     Build,
     Push,
+    /// Pushes into a heap with room for all.
+    Reserved,
     Pop,
     Churn,
+    /// A pop and a push by turns: what came out goes in again a little less.
+    Turns,
     Extend,
     Append,
     Retain,
@@ -36,6 +40,7 @@ pub enum Kind {
 pub enum Given {
     Random,
     Ascending,
+    Descending,
     HeapOrdered,
 }
 
@@ -120,13 +125,16 @@ impl Workload {
     }
 }
 
-pub const WORKLOADS: [Workload; 24] = [
+pub const WORKLOADS: [Workload; 27] = [
     Workload::on_numbers("hold", Call::Hold, Given::HeapOrdered).at_all_sizes(),
     Workload::on_numbers("build", Call::Build, Given::Random).at_all_sizes(),
     Workload::on_numbers("push_random", Call::Push, Given::Random).at_all_sizes(),
     Workload::on_numbers("push_ascending", Call::Push, Given::Ascending),
+    Workload::on_numbers("push_descending", Call::Push, Given::Descending),
+    Workload::on_numbers("push_reserved", Call::Reserved, Given::Random),
     Workload::on_numbers("pop", Call::Pop, Given::HeapOrdered).at_all_sizes(),
     Workload::on_numbers("churn", Call::Churn, Given::HeapOrdered).at_all_sizes(),
+    Workload::on_numbers("turns", Call::Turns, Given::HeapOrdered).at_all_sizes(),
     Workload::on_numbers("extend_64", Call::Extend, Given::Random).by(Piece::Of(64)),
     Workload::on_numbers("extend_eighth", Call::Extend, Given::Random).by(Piece::Eighth),
     Workload::on_numbers("append_64", Call::Append, Given::Random).by(Piece::Of(64)),
@@ -154,7 +162,7 @@ pub const SEARCH_SIZES: &[usize] = SOME;
 /// The items of one run.
 pub struct Task<T: Item> {
     pub items: Vec<T>,
-    /// What a churn pushes.
+    /// What a churn pushes, and by what the items become less that come out at each turn.
     pub more: Vec<T>,
     pub piece: usize,
     /// The items, and those of `more`, as the library is handed them.
@@ -202,8 +210,10 @@ fn work<T: Item, Q: Queue<T>>(call: Call) -> Work<T> {
         Call::Hold => hold::<T, Q>,
         Call::Build => build::<T, Q>,
         Call::Push => push::<T, Q>,
+        Call::Reserved => reserved::<T, Q>,
         Call::Pop => pop::<T, Q>,
         Call::Churn => churn::<T, Q>,
+        Call::Turns => turns::<T, Q>,
         Call::Extend => extend::<T, Q>,
         Call::Append => append::<T, Q>,
         Call::Retain => retain::<T, Q>,
@@ -250,6 +260,15 @@ fn push<T: Item, Q: Queue<T>>(task: &Task<T>, out: &mut [T::Mark]) -> usize {
     written(heap.as_slice(), out)
 }
 
+fn reserved<T: Item, Q: Queue<T>>(task: &Task<T>, out: &mut [T::Mark]) -> usize {
+    counting::begin();
+    let mut heap = Q::with_room(task.items.len());
+    for item in &task.items {
+        heap.push(item.clone());
+    }
+    written(heap.as_slice(), out)
+}
+
 fn pop<T: Item, Q: Queue<T>>(task: &Task<T>, out: &mut [T::Mark]) -> usize {
     let mut heap: Q = held(task);
     let mut count = 0;
@@ -268,6 +287,19 @@ fn churn<T: Item, Q: Queue<T>>(task: &Task<T>, out: &mut [T::Mark]) -> usize {
         if let Some(greatest) = heap.pop() {
             out[count] = greatest.mark();
             count += 1;
+        }
+    }
+    count
+}
+
+fn turns<T: Item, Q: Queue<T>>(task: &Task<T>, out: &mut [T::Mark]) -> usize {
+    let mut heap: Q = held(task);
+    let mut count = 0;
+    for less in &task.more {
+        if let Some(greatest) = heap.pop() {
+            out[count] = greatest.mark();
+            count += 1;
+            heap.push(greatest.lowered(less));
         }
     }
     count

@@ -30,6 +30,17 @@ macro_rules! at_arity {
     };
 }
 
+/// Does it over the heap that a number names: the language's own if it is 0, else `DaryHeap` of that arity.
+macro_rules! over {
+    ($heap:expr, $item:ty, $work:ident<$($type:ty)?>($($given:expr),*)) => {
+        if $heap == 0 {
+            $work::<$($type,)? BinaryHeap<$item>>($($given),*).unwrap_or(u64::MAX)
+        } else {
+            at_arity!($heap, DaryHeap<$item>, $work<$($type)?>($($given),*))
+        }
+    };
+}
+
 mod graph;
 mod numbers;
 mod queue;

@@ -6,13 +6,14 @@ use crate::queue::Queue;
 use crate::work::room;
 use dary_heap::DaryHeap;
 use std::alloc::{AllocError, Global};
+use std::collections::BinaryHeap;
 use std::str;
 
 /// The marks of the strings: no heap is made.
 #[unsafe(no_mangle)]
 pub extern "C" fn bench_copy_strings(
     alloc: Global,
-    _arity: usize,
+    _heap: usize,
     bytes: &[u8],
     ends: &[usize],
     out: &mut [u64],
@@ -29,12 +30,12 @@ fn copy(alloc: Global, bytes: &[u8], ends: &[usize], out: &mut [u64]) -> Result<
 #[unsafe(no_mangle)]
 pub extern "C" fn bench_build_strings(
     alloc: Global,
-    arity: usize,
+    heap: usize,
     bytes: &[u8],
     ends: &[usize],
     out: &mut [u64],
 ) -> u64 {
-    at_arity!(arity, DaryHeap<String>, build<>(alloc, bytes, ends, out))
+    over!(heap, String, build<>(alloc, bytes, ends, out))
 }
 
 fn build<Q: Queue<String>>(
@@ -51,12 +52,12 @@ fn build<Q: Queue<String>>(
 #[unsafe(no_mangle)]
 pub extern "C" fn bench_push_strings(
     alloc: Global,
-    arity: usize,
+    heap: usize,
     bytes: &[u8],
     ends: &[usize],
     out: &mut [u64],
 ) -> u64 {
-    at_arity!(arity, DaryHeap<String>, push<>(alloc, bytes, ends, out))
+    over!(heap, String, push<>(alloc, bytes, ends, out))
 }
 
 fn push<Q: Queue<String>>(
@@ -78,12 +79,12 @@ fn push<Q: Queue<String>>(
 #[unsafe(no_mangle)]
 pub extern "C" fn bench_pop_strings(
     alloc: Global,
-    arity: usize,
+    heap: usize,
     bytes: &[u8],
     ends: &[usize],
     out: &mut [u64],
 ) -> u64 {
-    at_arity!(arity, DaryHeap<String>, pop<>(alloc, bytes, ends, out))
+    over!(heap, String, pop<>(alloc, bytes, ends, out))
 }
 
 fn pop<Q: Queue<String>>(
@@ -107,14 +108,14 @@ fn pop<Q: Queue<String>>(
 #[unsafe(no_mangle)]
 pub extern "C" fn bench_churn_strings(
     alloc: Global,
-    arity: usize,
+    heap: usize,
     bytes: &[u8],
     ends: &[usize],
     more_bytes: &[u8],
     more_ends: &[usize],
     out: &mut [u64],
 ) -> u64 {
-    at_arity!(arity, DaryHeap<String>, churn<>(alloc, bytes, ends, more_bytes, more_ends, out))
+    over!(heap, String, churn<>(alloc, bytes, ends, more_bytes, more_ends, out))
 }
 
 fn churn<Q: Queue<String>>(

@@ -1,9 +1,11 @@
 //! The workloads on items of 16 and 64 bytes.
+ghost use Rattle.std.specs.Prelude.{◌≢◌};
 ghost use Rattle.dary_heap.specs.HeapOrder.{IsHeapOrdered};
 
 use crate::work::{build, churn, copy, hold, pop, push};
 use dary_heap::DaryHeap;
 use std::alloc::Global;
+use std::collections::BinaryHeap;
 
 /// A priority and a name. Of two with one priority that of the greater name is the greater.
 #[repr(C)]
@@ -30,7 +32,7 @@ pub struct Record {
 #[unsafe(no_mangle)]
 pub extern "C" fn bench_copy_entries(
     alloc: Global,
-    _arity: usize,
+    _heap: usize,
     items: &[Entry],
     out: &mut [Entry],
 ) -> u64 {
@@ -40,64 +42,64 @@ pub extern "C" fn bench_copy_entries(
 #[unsafe(no_mangle)]
 pub extern "C" fn bench_hold_entries(
     alloc: Global,
-    arity: usize,
+    heap: usize,
     items: &[Entry],
     out: &mut [Entry],
 ) -> u64
-    requires { IsHeapOrdered ⟦<Entry as Ord>⟧.cmp arity items.now }
+    requires { heap ≢ 0 → IsHeapOrdered ⟦<Entry as Ord>⟧.cmp heap items.now }
 {
-    at_arity!(arity, DaryHeap<Entry>, hold<Entry>(alloc, items, out))
+    over!(heap, Entry, hold<Entry>(alloc, items, out))
 }
 
 #[unsafe(no_mangle)]
 pub extern "C" fn bench_build_entries(
     alloc: Global,
-    arity: usize,
+    heap: usize,
     items: &[Entry],
     out: &mut [Entry],
 ) -> u64 {
-    at_arity!(arity, DaryHeap<Entry>, build<Entry>(alloc, items, out))
+    over!(heap, Entry, build<Entry>(alloc, items, out))
 }
 
 #[unsafe(no_mangle)]
 pub extern "C" fn bench_push_entries(
     alloc: Global,
-    arity: usize,
+    heap: usize,
     items: &[Entry],
     out: &mut [Entry],
 ) -> u64 {
-    at_arity!(arity, DaryHeap<Entry>, push<Entry>(alloc, items, out))
+    over!(heap, Entry, push<Entry>(alloc, items, out))
 }
 
 #[unsafe(no_mangle)]
 pub extern "C" fn bench_pop_entries(
     alloc: Global,
-    arity: usize,
+    heap: usize,
     items: &[Entry],
     out: &mut [Entry],
 ) -> u64
-    requires { IsHeapOrdered ⟦<Entry as Ord>⟧.cmp arity items.now }
+    requires { heap ≢ 0 → IsHeapOrdered ⟦<Entry as Ord>⟧.cmp heap items.now }
 {
-    at_arity!(arity, DaryHeap<Entry>, pop<Entry>(alloc, items, out))
+    over!(heap, Entry, pop<Entry>(alloc, items, out))
 }
 
 #[unsafe(no_mangle)]
 pub extern "C" fn bench_churn_entries(
     alloc: Global,
-    arity: usize,
+    heap: usize,
     items: &[Entry],
     more: &[Entry],
     out: &mut [Entry],
 ) -> u64
-    requires { IsHeapOrdered ⟦<Entry as Ord>⟧.cmp arity items.now }
+    requires { heap ≢ 0 → IsHeapOrdered ⟦<Entry as Ord>⟧.cmp heap items.now }
 {
-    at_arity!(arity, DaryHeap<Entry>, churn<Entry>(alloc, items, more, out))
+    over!(heap, Entry, churn<Entry>(alloc, items, more, out))
 }
 
 #[unsafe(no_mangle)]
 pub extern "C" fn bench_copy_records(
     alloc: Global,
-    _arity: usize,
+    _heap: usize,
     items: &[Record],
     out: &mut [Record],
 ) -> u64 {
@@ -107,56 +109,56 @@ pub extern "C" fn bench_copy_records(
 #[unsafe(no_mangle)]
 pub extern "C" fn bench_hold_records(
     alloc: Global,
-    arity: usize,
+    heap: usize,
     items: &[Record],
     out: &mut [Record],
 ) -> u64
-    requires { IsHeapOrdered ⟦<Record as Ord>⟧.cmp arity items.now }
+    requires { heap ≢ 0 → IsHeapOrdered ⟦<Record as Ord>⟧.cmp heap items.now }
 {
-    at_arity!(arity, DaryHeap<Record>, hold<Record>(alloc, items, out))
+    over!(heap, Record, hold<Record>(alloc, items, out))
 }
 
 #[unsafe(no_mangle)]
 pub extern "C" fn bench_build_records(
     alloc: Global,
-    arity: usize,
+    heap: usize,
     items: &[Record],
     out: &mut [Record],
 ) -> u64 {
-    at_arity!(arity, DaryHeap<Record>, build<Record>(alloc, items, out))
+    over!(heap, Record, build<Record>(alloc, items, out))
 }
 
 #[unsafe(no_mangle)]
 pub extern "C" fn bench_push_records(
     alloc: Global,
-    arity: usize,
+    heap: usize,
     items: &[Record],
     out: &mut [Record],
 ) -> u64 {
-    at_arity!(arity, DaryHeap<Record>, push<Record>(alloc, items, out))
+    over!(heap, Record, push<Record>(alloc, items, out))
 }
 
 #[unsafe(no_mangle)]
 pub extern "C" fn bench_pop_records(
     alloc: Global,
-    arity: usize,
+    heap: usize,
     items: &[Record],
     out: &mut [Record],
 ) -> u64
-    requires { IsHeapOrdered ⟦<Record as Ord>⟧.cmp arity items.now }
+    requires { heap ≢ 0 → IsHeapOrdered ⟦<Record as Ord>⟧.cmp heap items.now }
 {
-    at_arity!(arity, DaryHeap<Record>, pop<Record>(alloc, items, out))
+    over!(heap, Record, pop<Record>(alloc, items, out))
 }
 
 #[unsafe(no_mangle)]
 pub extern "C" fn bench_churn_records(
     alloc: Global,
-    arity: usize,
+    heap: usize,
     items: &[Record],
     more: &[Record],
     out: &mut [Record],
 ) -> u64
-    requires { IsHeapOrdered ⟦<Record as Ord>⟧.cmp arity items.now }
+    requires { heap ≢ 0 → IsHeapOrdered ⟦<Record as Ord>⟧.cmp heap items.now }
 {
-    at_arity!(arity, DaryHeap<Record>, churn<Record>(alloc, items, more, out))
+    over!(heap, Record, churn<Record>(alloc, items, more, out))
 }
