@@ -1,10 +1,10 @@
 -- Links in which a pair is merged: they are linked, and the word has the new piece in the place of the two.
-use Rattle.std.proofs.Common.{◌≡◌, ◌≢◌, ◌⊎◌, ℕ, zero, suc, ◌+◌, ◌<◌, ◌≤◌, List, [], ◌∷◌, ◌++◌, length, take, drop, slice_set, Option, Some, None, IsSome, is_some, inl, inr, refl, sym, ap, ◌∙◌, subst, arith, length-append, length-set, get_or, get_or-set_same, get_or-set_other}
-use Rattle.std.proofs.lemmas.Bool.{cases_lt, cases_eq, true≢false}
+use Rattle.std.proofs.Common.{◌≡◌, ◌≢◌, ℕ, zero, suc, ◌<◌, ◌≤◌, List, [], ◌∷◌, ◌++◌, length, take, drop, slice_set, Some, None, is_some, inl, inr, refl, sym, ap, ◌∙◌, subst, arith, length-set, get_or-set_same, get_or-set_other}
+use Rattle.std.proofs.lemmas.Bool.{cases_lt, cases_eq}
 use Rattle.std.proofs.lemmas.List.{drop-set-lt}
-use Rattle.dary_heap_pieces.specs.Links.{gone, link, word_of, IsLive, IsLinked, left_joined, right_gone, with_previous, joined}
+use Rattle.dary_heap_pieces.specs.Links.{gone, link, word_of, IsLive, IsLinked, left_joined, right_gone, joined}
 use Rattle.dary_heap_pieces.specs.declared.links.Link.{Link}
-use Rattle.dary_heap_pieces.proofs.Words.{piece_at, next_at, word_of-split, word_of-at, word_of-between, word_of-set_same, behind_piece}
+use Rattle.dary_heap_pieces.proofs.Words.{piece_at, next_at, word_of-split, word_of-between, word_of-set_same}
 
 field-set_same : {B : Type 0} (f : Link → B) (links : List Link) (i : ℕ) (v : Link) → f v ≡ f (link links i) → (j : ℕ) → f (link (slice_set links i v) j) ≡ f (link links j)
 field-set_same f [] i v same j = refl

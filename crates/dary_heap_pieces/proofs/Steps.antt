@@ -1,21 +1,21 @@
 -- A candidate that is first: where its pair still has its rank, merging it is a step, and else no pair needs it.
-use Rattle.std.proofs.Common.{◌≡◌, ◌≢◌, ◌⊎◌, ℕ, zero, suc, ◌+◌, ◌<◌, ◌≤◌, List, [], ◌∷◌, ◌++◌, length, take, drop, slice_get, Contains, Option, Some, None, IsSome, is_some, inl, inr, refl, sym, ap, ◌∙◌, subst, arith, length-append}
+use Rattle.std.proofs.Common.{◌≡◌, ◌≢◌, ◌⊎◌, ℕ, zero, suc, ◌+◌, ◌<◌, ◌≤◌, List, [], ◌∷◌, ◌++◌, length, take, drop, slice_get, Contains, Option, Some, None, is_some, inl, inr, refl, sym, ap, ◌∙◌, subst, arith, length-append}
 use Rattle.std.proofs.Math.Seq.{take-append_seam}
 use Rattle.std.proofs.lemmas.Bool.{cases_lt, cases_eq}
 use Rattle.std.specs.Cmp.{nat_cmp_is}
 use Rattle.std.specs.Ordering.{nat_cmp, ordering_then}
 use Rattle.std.specs.declared.cmp.Ordering.{Ordering}
-use Rattle.std.specs.declared.cmp.Ordering.TheVariants.{Equal, Greater}
+use Rattle.std.specs.declared.cmp.Ordering.TheVariants.{Equal}
 use Rattle.std.specs.declared.cmp.Reverse.{Reverse}
 use Rattle.dary_heap.specs.Bag.{IsSameBag, IsGreatest}
-use Rattle.dary_heap.proofs.Callers.{Contains-cases, Contains-first, Contains-later, came_later, nat_le_from_first, nat_le_from_cmp}
+use Rattle.dary_heap.proofs.Callers.{Contains-cases, came_later, nat_le_from_first, nat_le_from_cmp}
 use Rattle.std.proofs.lemmas.List.Sorted.{IsPermutation-sym, Contains-permutation}
-use Rattle.dary_heap_pieces.specs.Links.{gone, link, word_of, IsLive, IsLinked, merge_of, standing, joined, candidate, IsOffered, IsFirst}
+use Rattle.dary_heap_pieces.specs.Links.{link, word_of, IsLive, IsLinked, merge_of, standing, joined, candidate, IsOffered, IsFirst}
 use Rattle.dary_heap_pieces.specs.Merging.{IsMergeAt, IsStep, LeadsTo, IsMerged}
 use Rattle.dary_heap_pieces.specs.declared.links.Link.{Link}
 use Rattle.dary_heap_pieces.specs.declared.table.Merge.{Merge}
-use Rattle.dary_heap_pieces.proofs.Words.{piece_at, next_at, position, position-later, StandsAt, stands_at, word_of-split, word_of-at, behind, behind_piece}
-use Rattle.dary_heap_pieces.proofs.Joining.{IsLinked-joined, word-joined, new_long, live_within, not_live, was_live, next_other, piece_other, piece_here}
+use Rattle.dary_heap_pieces.proofs.Words.{piece_at, next_at, position, position-later, stands_at, word_of-split, word_of-at, behind, behind_piece}
+use Rattle.dary_heap_pieces.proofs.Joining.{IsLinked-joined, word-joined, live_within, not_live, was_live, next_other, piece_other, piece_here}
 
 -- ---- lists
 
@@ -270,3 +270,39 @@ IsFirst-popped items left rank place greatest bag =
 
 pub IsOffered-popped : (table : ℕ → ℕ → Option Merge) (links : List Link) (items left : List (Reverse (ℕ × ℕ))) → IsSameBag items left → IsOffered table links items → IsOffered table links left
 IsOffered-popped table links items left bag offered = record { each = λ q m is. Contains-permutation items left (candidate m.rank q) bag (offered.each q m is) }
+
+-- ---- there is only one result
+
+IsMergeAt-same : (table : ℕ → ℕ → Option Merge) (word : List ℕ) (place : ℕ) (a b : Merge) → IsMergeAt table word place a → IsMergeAt table word place b → a ≡ b
+IsMergeAt-same table word place a b h k =
+    let left : h.left ≡ k.left = let e = sym h.first ∙ k.first in cc in
+    let right : h.right ≡ k.right = let e = sym h.second ∙ k.second in cc in
+    let has = sym h.has ∙ ap (λ (x : ℕ). table x h.right) left ∙ ap (table k.left) right ∙ k.has in
+    cc
+
+IsStep-same : (table : ℕ → ℕ → Option Merge) (word a b : List ℕ) → IsStep table word a → IsStep table word b → a ≡ b
+IsStep-same table word a b h k =
+    let less = h.least k.place k.merge k.stands in
+    let more = k.least h.place h.merge h.stands in
+    let rank : k.merge.rank ≡ h.merge.rank = omega (arith, less, more) in
+    let before = h.leftmost k.place k.merge k.stands rank in
+    let after = k.leftmost h.place h.merge h.stands (sym rank) in
+    let place : h.place ≡ k.place = omega (arith, before, after) in
+    let merge = IsMergeAt-same table word k.place h.merge k.merge (subst (λ (p : ℕ). IsMergeAt table word p h.merge) place h.stands) k.stands in
+    h.merged
+    ∙ ap (λ (p : ℕ). take p word ++ h.merge.piece ∷ drop (p + 2) word) place
+    ∙ ap (λ (m : Merge). take k.place word ++ m.piece ∷ drop (k.place + 2) word) merge
+    ∙ sym k.merged
+
+no_step : (table : ℕ → ℕ → Option Merge) (word last next : List ℕ) → word ≡ last → ((place : ℕ) (merge : Merge) → ¬ (IsMergeAt table last place merge)) → IsStep table word next → {X : Type 0} → X
+no_step table word last next same none step = absurd (none step.place step.merge (subst (λ (w : List ℕ). IsMergeAt table w step.place step.merge) same step.stands))
+
+LeadsTo-same : (table : ℕ → ℕ → Option Merge) (m n : ℕ) (word a b : List ℕ) → LeadsTo table m word a → LeadsTo table n word b → ((place : ℕ) (merge : Merge) → ¬ (IsMergeAt table a place merge)) → ((place : ℕ) (merge : Merge) → ¬ (IsMergeAt table b place merge)) → a ≡ b
+LeadsTo-same table zero zero word a b h k none_a none_b = sym h ∙ k
+LeadsTo-same table zero (suc n) word a b h k none_a none_b = no_step table word a k.0 h none_a k.1
+LeadsTo-same table (suc m) zero word a b h k none_a none_b = no_step table word b h.0 k none_b h.1
+LeadsTo-same table (suc m) (suc n) word a b h k none_a none_b =
+    LeadsTo-same table m n h.0 a b h.2 (subst (λ (w : List ℕ). LeadsTo table n w b) (IsStep-same table word k.0 h.0 k.1 h.1) k.2) none_a none_b
+
+pub IsMerged-only : (table : ℕ → ℕ → Option Merge) (word a b : List ℕ) → IsMerged table word a → IsMerged table word b → a ≡ b
+IsMerged-only table word a b h k = LeadsTo-same table h.steps k.steps word a b h.leads k.leads h.none_left k.none_left

@@ -1,5 +1,5 @@
 //! The merging itself.
-ghost use Rattle.std.specs.Prelude.{◌≡◌, ◌≢◌, ◌+◌, ◌-◌, ◌*◌, ◌<◌, ◌≤◌, ℕ, [], ◌∷◌, ◌++◌, length, vec_len, vec_capacity, Some, Contains, IfOk};
+ghost use Rattle.std.specs.Prelude.{◌≡◌, ◌≢◌, ◌+◌, ◌-◌, ◌*◌, ◌<◌, ◌≤◌, ℕ, [], ◌∷◌, ◌++◌, length, vec_len, vec_capacity, Some, Contains, List, IfOk, IsOk};
 ghost use Rattle.std.specs.declared.cmp.Reverse.{Reverse};
 ghost use Rattle.dary_heap.specs.Bounds.{RisesWithin, push_bound, pop_bound};
 ghost use Rattle.dary_heap_pieces.specs.Links.{IsFirst, IsLinked, IsOffered, candidate, merging_bound, standing, word_of};
@@ -23,6 +23,8 @@ type Candidates = OctonaryHeap<Reverse<(u32, usize)>>;
 /// Returns `AllocError` if memory allocation fails.
 pub fn merge_pieces(alloc: Global, pieces: &[u32], merges: &Merges) -> Result<Vec<u32>, AllocError>
     ensures merged { IfOk result (λ merged. IsMerged (table_of merges.now) pieces.now merged.items) }
+    ensures only { IfOk result (λ merged. (last : List ℕ) → IsMerged (table_of merges.now) pieces.now last → last ≡ merged.items) }
+    ensures succeeds { pieces.now ≡ [] → IsOk result }
 {
     let mut links = link_all(alloc, pieces)?;
     let room = pieces.len().saturating_sub(1).saturating_mul(2);

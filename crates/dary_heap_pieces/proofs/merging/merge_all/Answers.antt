@@ -1,10 +1,9 @@
-use Rattle.std.proofs.Common.{◌≡◌, ◌+◌, List, [], ◌∷◌, length, true, false, sym, ap, ◌∙◌, subst, arith, refl}
+use Rattle.std.proofs.Common.{◌≡◌, ◌+◌, [], ◌∷◌, length, sym, ap, ◌∙◌, subst, arith}
 use Rattle.std.proofs.lemmas.Bool.{true≢false}
 use Rattle.std.proofs.lemmas.List.Sorted.{length_permutation}
-use Rattle.std.specs.declared.cmp.Reverse.{Reverse}
 use Rattle.dary_heap.specs.Bounds.{RisesWithin}
 use Rattle.dary_heap.proofs.Callers.{has_none}
-use Rattle.dary_heap_pieces.specs.Links.{IsOffered, candidate, merging_bound, word_of}
+use Rattle.dary_heap_pieces.specs.Links.{IsOffered, merging_bound, word_of}
 use Rattle.dary_heap_pieces.specs.Merging.{table_of}
 use Rattle.dary_heap_pieces.proofs.Counting.{turn_counted, all_counted}
 use Rattle.dary_heap_pieces.proofs.Steps.{IsFirst-popped, IsOffered-popped, LeadsTo-then, none_standing}

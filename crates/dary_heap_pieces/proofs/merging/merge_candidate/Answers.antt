@@ -1,5 +1,4 @@
-use Rattle.std.proofs.Common.{◌≡◌, ◌+◌, List, Some, Contains, length, sym, ap, ◌∙◌, subst, arith, refl}
-use Rattle.std.specs.declared.cmp.Reverse.{Reverse}
+use Rattle.std.proofs.Common.{◌≡◌, ◌+◌, List, Contains, length, sym, ap, ◌∙◌, subst, arith, refl}
 use Rattle.dary_heap_pieces.specs.Links.{IsLinked, IsOffered, candidate, link, standing, word_of}
 use Rattle.dary_heap_pieces.specs.Merging.{LeadsTo, table_of}
 use Rattle.dary_heap_pieces.specs.declared.links.Link.{Link}

@@ -1,4 +1,4 @@
-use Rattle.std.proofs.Common.{◌≡◌, length, sym, ap, ◌∙◌, subst, arith}
+use Rattle.std.proofs.Common.{length, subst}
 use Rattle.dary_heap.specs.Bounds.{RisesWithin}
 use Rattle.dary_heap_pieces.specs.Links.{merging_bound}
 use Rattle.dary_heap_pieces.proofs.Counting.{total_counted}

@@ -1,4 +1,4 @@
-use Rattle.std.proofs.Common.{◌≡◌, Some, Contains, sym, ap, ◌∙◌, subst}
+use Rattle.std.proofs.Common.{◌≡◌, Contains, ◌∙◌, subst}
 use Rattle.dary_heap.proofs.Callers.{came_first, came_later}
 use Rattle.dary_heap_pieces.specs.Links.{candidate}
 use Rattle.dary_heap_pieces.specs.declared.table.Merge.{Merge}

@@ -1,4 +1,4 @@
-use Rattle.std.proofs.Common.{◌≡◌, ◌≤◌, ◌+◌, ◌++◌, length, take, vec_len, vec_capacity}
+use Rattle.std.proofs.Common.{◌≡◌, ◌≤◌, ◌+◌, ◌++◌, take, vec_len, vec_capacity}
 use Rattle.dary_heap_pieces.specs.Links.{word_of}
 use Rattle.dary_heap_pieces.proofs.merging.put_word.Given as goal
 
