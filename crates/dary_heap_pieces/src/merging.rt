@@ -1,4 +1,8 @@
-//! The merging itself.
+//! The merging.
+//!
+//! Each pair that has a merge is a candidate: its rank, and the place of its left piece. The candidates stand in a
+//! heap, from which the one of the least rank comes first, and of equal ones the leftmost. A candidate whose pair has
+//! another rank by now is passed over.
 ghost use Rattle.std.specs.Prelude.{◌≡◌, ◌≢◌, ◌+◌, ◌-◌, ◌*◌, ◌<◌, ◌≤◌, ℕ, [], ◌∷◌, ◌++◌, length, vec_len, vec_capacity, Some, Contains, List, IfOk, IsOk};
 ghost use Rattle.std.specs.declared.cmp.Reverse.{Reverse};
 ghost use Rattle.dary_heap.specs.Bounds.{RisesWithin, push_bound, pop_bound};
@@ -16,11 +20,33 @@ use std::cmp::Reverse;
 /// first, and of equal ones the leftmost.
 type Candidates = OctonaryHeap<Reverse<(u32, usize)>>;
 
-/// Merges the pieces of a word by rank, and returns what is left.
+/// Merges the pieces of a word, and returns what is left: again and again the leftmost adjacent pair of the least
+/// rank becomes one piece, until no adjacent pair has a merge.
+///
+/// Several pairs may have one rank, and different pairs may merge to the same piece.
 ///
 /// # Errors
 ///
-/// Returns `AllocError` if memory allocation fails.
+/// Returns `AllocError` if memory allocation fails. All memory is allocated before the first merge.
+///
+/// # Examples
+///
+/// ```
+/// use dary_heap_pieces::merging::merge_pieces;
+/// use dary_heap_pieces::table::Merge;
+/// use std::collections::HashMap;
+///
+/// let mut merges = HashMap::new(alloc);
+/// merges.insert((1, 2), Merge { rank: 1, piece: 3 })?;
+/// merges.insert((2, 1), Merge { rank: 0, piece: 4 })?;
+/// merges.insert((1, 4), Merge { rank: 2, piece: 5 })?;
+/// let merged = merge_pieces(alloc, [1, 2, 1, 2].as_slice(), &merges)?;
+/// assert_eq!(rt; merged.as_slice(), [5, 2].as_slice());
+/// ```
+///
+/// # Time
+///
+/// For `n` pieces at most `3 (n - 1)` pushes and as many pops of a heap of arity 8 with fewer than `2 n` candidates.
 pub fn merge_pieces(alloc: Global, pieces: &[u32], merges: &Merges) -> Result<Vec<u32>, AllocError>
     ensures merged { IfOk result (λ merged. IsMerged (table_of merges.now) pieces.now merged.items) }
     ensures only { IfOk result (λ merged. (last : List ℕ) → IsMerged (table_of merges.now) pieces.now last → last ≡ merged.items) }
