@@ -1,0 +1,5 @@
+pub mod Counting
+pub mod Joining
+pub mod Linking
+pub mod Steps
+pub mod Words

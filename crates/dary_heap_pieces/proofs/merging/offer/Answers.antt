@@ -1,0 +1,14 @@
+use Rattle.std.proofs.Common.{◌≡◌, Contains, ◌∙◌, subst}
+use Rattle.dary_heap.proofs.Callers.{came_first, came_later}
+use Rattle.dary_heap_pieces.specs.Links.{candidate}
+use Rattle.dary_heap_pieces.specs.declared.table.Merge.{Merge}
+use Rattle.dary_heap_pieces.proofs.merging.offer.Goals as goal
+
+pub returns-in-Some-clause-offered : goal.returns-in-Some-clause-offered
+returns-in-Some-clause-offered c = λ merge is.
+    let bag = rw c.unwrap.ensures at c.push.ensures.bag in
+    let same : c.in-Some.merge ≡ merge = let e = c.in-Some.ensures ∙ is in cc in
+    subst (λ (m : Merge). Contains c.push.new.self.items (candidate m.rank c.args.place)) same (came_first _ _ _ bag)
+
+pub returns-in-Some-clause-kept : goal.returns-in-Some-clause-kept
+returns-in-Some-clause-kept c = λ other there. let bag = rw c.unwrap.ensures at c.push.ensures.bag in came_later _ _ _ other bag there
