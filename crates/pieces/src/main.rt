@@ -6,9 +6,9 @@ mod serve;
 mod vocabulary;
 
 use fault::Fault;
+use std::env::Env;
 use std::process::ExitCode;
 use std::rt::Files;
-use std::env::Env;
 use std::{env, fs};
 
 fn main(rt: HostRuntime) -> ExitCode {

@@ -81,9 +81,7 @@ impl Vocabulary {
         let Some(piece) = self.number_or_new(alloc, text)? else {
             return Ok(false);
         };
-        let before = self
-            .merges
-            .insert((first, second), Merge { rank, piece })?;
+        let before = self.merges.insert((first, second), Merge { rank, piece })?;
         Ok(before.is_none())
     }
 
