@@ -24,8 +24,10 @@ use Rattle.dary_heap.proofs.Fronts.{alone}
 use Rattle.dary_heap.proofs.Order.{less, not_greater}
 use Rattle.dary_heap.proofs.Popping.{pops_give}
 pub use Rattle.dary_heap.proofs.Bags.{Contains-cases, Contains-first, Contains-later, holds_none, has_none, came_first, came_later, came_cases}
+pub use Rattle.dary_heap.proofs.Bounded.{upper_bound, upper_bound_left}
 pub use Rattle.dary_heap.proofs.Callable.{takes_in_turn, all_callable}
 pub use Rattle.dary_heap.proofs.Cancelling.{IsPermutation-uncons}
+pub use Rattle.dary_heap.proofs.FromStd.{std_heap_from_ordered, ordered_from_std_heap, descending_at, extend_fits, on_ok_of}
 pub use Rattle.dary_heap.proofs.Lowering.{sum_falls}
 pub use Rattle.dary_heap.proofs.Order.{not_greater-self, not_greater-trans}
 pub use Rattle.dary_heap.proofs.Popping.{none_first, some_first, pops_list, pops_descend, pops_counted}

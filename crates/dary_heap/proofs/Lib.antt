@@ -28,6 +28,7 @@ pub mod ServingMany
 pub mod ServingDrains
 pub mod ServingLoan
 pub mod ServingPlain
+pub mod FromStd
 pub mod Fronts
 pub mod Cancelling
 pub mod States

@@ -1,5 +1,5 @@
 -- What becomes of the k greatest once an item more came.
-use Rattle.std.proofs.Common.{◌≡◌, ◌≢◌, ℕ, ◌+◌, ◌*◌, ◌<◌, ◌≤◌, min, Result, Ok, Err, OnOk, is_ok, List, [], ◌∷◌, ◌++◌, length, sym, subst, arith, inl, inr, Some, slice_set, Contains, length-append}
+use Rattle.std.proofs.Common.{◌≡◌, ◌≢◌, ℕ, ◌+◌, ◌*◌, ◌<◌, ◌≤◌, min, List, [], ◌∷◌, ◌++◌, length, sym, subst, arith, inl, inr, Some, slice_set, Contains, length-append}
 use Rattle.std.proofs.lemmas.List.{length-map}
 use Rattle.std.proofs.lemmas.List.Sorted.{IsPermutation-sym, IsPermutation-trans, IsPermutation-cons, IsPermutation-middle, IsPermutation-map, IsPermutation-append_left, IsPermutation-push_more, length_permutation}
 use Rattle.std.specs.Cmp.{IsTotalOrder}
@@ -13,13 +13,6 @@ use Rattle.dary_heap.specs.State.{front}
 use Rattle.dary_heap.proofs.Callers.{came_cases, not_greater-trans, reversed_least, Contains-cases, Contains-first, Contains-later}
 use Rattle.dary_heap.proofs.Depth.{depth-parent}
 use Rattle.dary_heap_uses.specs.Keeping.{KeepsGreatest, values}
-
--- what is told of one outcome is told of another with the same variant
-pub on_ok_of : {A E F : Type 0} (r : Result A E) (s : Result A F) {P Q : Type 0} → is_ok s ≡ is_ok r → OnOk r P → (P → Q) → OnOk s Q
-on_ok_of (Ok x) (Ok y) same h f = f h
-on_ok_of (Ok x) (Err e) same h f = tt
-on_ok_of (Err e) (Ok y) same h f = absurd (cc)
-on_ok_of (Err e) (Err d) same h f = tt
 
 module _ {X : Type 0} {cmp : X → X → Ordering} (total : IsTotalOrder cmp) (k : ℕ) (items : List X) where
   -- there was room for it

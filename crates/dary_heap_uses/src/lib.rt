@@ -2,6 +2,7 @@
 //!
 //! - [`calling`] has the functions that the README and `CALLING.md` of `dary_heap` show;
 //! - [`exchange`] exchanges an item with a heap without memory, and moves one from heap to heap;
+//! - [`from_std`] meets the needs that std's heap serves as well;
 //! - [`greatest`] keeps the greatest items of a stream;
 //! - [`least_first`] is a heap that gives the least item first;
 //! - [`merge`] merges sorted lists;
@@ -14,6 +15,7 @@
 
 pub mod calling;
 pub mod exchange;
+pub mod from_std;
 pub mod greatest;
 pub mod least_first;
 pub mod merge;

@@ -2,10 +2,10 @@ use Rattle.std.proofs.Common.{rules, ◌≡◌, ◌≤◌, ◌<◌, [], ◌∷�
 use Rattle.std.proofs.lemmas.Bool.{true≢false}
 use Rattle.std.proofs.lemmas.Option.{slice_get_within}
 use Rattle.dary_heap.specs.Bounds.{pop_bound}
-use Rattle.dary_heap.proofs.Callers.{cmp_from_lt, cmp_from_not_lt, has_none, not_greater-less}
+use Rattle.dary_heap.proofs.Callers.{cmp_from_lt, cmp_from_not_lt, has_none, not_greater-less, on_ok_of}
 use Rattle.dary_heap.proofs.Depth.{depth-later}
 use Rattle.dary_heap_uses.specs.Keeping.{KeepsGreatest, values}
-use Rattle.dary_heap_uses.proofs.Keeping.{on_ok_of, within_more, pushed, replaced, passed_by, none_kept, sunk_within}
+use Rattle.dary_heap_uses.proofs.Keeping.{within_more, pushed, replaced, passed_by, none_kept, sunk_within}
 use Rattle.dary_heap_uses.proofs.greatest.offer.Goals as goal
 
 pub returns-then-len-k-clause-greatest : goal.returns-then-len-k-clause-greatest

@@ -1,0 +1,143 @@
+//! Needs that std's `BinaryHeap` serves as well, as a caller of this heap meets them.
+ghost use Rattle.std.specs.BinaryHeap.{IsHeap, heap_items};
+ghost use Rattle.std.specs.Prelude.{◌≡◌, ◌+◌, ◌-◌, ◌<◌, ◌≤◌, ◌↔◌, [], ◌∷◌, ℕ, All, length, slice_get, vec_len, Some, IsOk, IsSome, IfSome, IfOk, OnOk, OnErr};
+ghost use Rattle.dary_heap.specs.Bag.{IsSameBag};
+
+use crate::ranking::ranked;
+use dary_heap::{BinaryHeap, DaryHeap};
+use std::alloc::{AllocError, Global};
+use std::{collections, mem};
+
+/// Adds a price. Where std's push fails with `AllocError`, this heap's gives the item back, and
+/// `map_err` drops it.
+pub fn add_price(prices: &mut BinaryHeap<u32>, price: u32) -> Result<(), AllocError>
+    ensures bag { OnOk result (IsSameBag (price ∷ prices.old.items) prices.new.items) }
+    ensures unchanged { OnErr result (prices.new ≡ prices.old) }
+{
+    prices.push(price).map_err(|_| AllocError)?;
+    Ok(())
+}
+
+/// Takes the highest price out. No price that stays is higher.
+pub fn highest(prices: &mut BinaryHeap<u32>) -> Option<u32>
+    ensures { IfSome result (λ price. All (λ other. other ≤ price) prices.new.items) }
+{
+    prices.pop()
+}
+
+/// Takes the two highest prices out and returns by how much the first exceeds the second, or `None` if there
+/// were fewer than two.
+pub fn lead(prices: &mut BinaryHeap<u32>) -> Option<u32>
+    ensures { length prices.new.items ≡ length prices.old.items - 2 }
+{
+    let first = prices.pop()?;
+    let second = prices.pop()?;
+    Some(first - second)
+}
+
+/// Takes the highest price out if it is at least the bound. No price that stays is higher.
+pub fn highest_from(prices: &mut BinaryHeap<u32>, bound: u32) -> Option<u32>
+    ensures { IfSome result (λ price. All (λ other. other ≤ price) prices.new.items) }
+{
+    prices.pop_if(|price| bound <= *price)
+}
+
+/// Returns the lowest price and the highest, or `None` if there is none.
+pub fn range(prices: Vec<u32>) -> Option<(u32, u32)>
+    ensures { IsSome result ↔ (0 < vec_len prices) }
+{
+    let sorted = BinaryHeap::from(prices).into_sorted_vec();
+    if sorted.is_empty() {
+        return None;
+    }
+    Some((sorted[0], sorted[sorted.len() - 1]))
+}
+
+/// Returns the prices from the highest down.
+pub fn falling(alloc: Global, prices: BinaryHeap<u32>) -> Result<Vec<u32>, AllocError>
+    ensures bag { IfOk result (λ list. IsSameBag prices.items list.items) }
+    ensures falls { IfOk result (λ list. (i j x y : ℕ) → i ≤ j → slice_get list.items i ≡ Some x → slice_get list.items j ≡ Some y → y ≤ x) }
+{
+    ranked(alloc, prices)
+}
+
+/// Adds prices for which there is room. So it can't fail.
+pub fn add_all(prices: &mut BinaryHeap<u32>, more: Vec<u32>) -> Result<(), AllocError>
+    requires { length prices.old.items + vec_len more ≤ prices.old.capacity }
+    ensures { IsOk result }
+{
+    prices.extend(more)
+}
+
+/// Takes the prices above a limit out, and returns how many they were.
+pub fn cut(prices: &mut BinaryHeap<u32>, limit: u32) -> usize
+    ensures { length prices.new.items + result ≡ length prices.old.items }
+{
+    let before = prices.len();
+    keep_below(prices, limit);
+    before - prices.len()
+}
+
+/// Drops the prices above a limit.
+#[tactic(auto, using(dary_heap::proofs::Callable::takes_in_turn))]
+fn keep_below(prices: &mut BinaryHeap<u32>, limit: u32)
+    ensures { length prices.new.items ≤ length prices.old.items }
+{
+    prices.retain(|price| *price <= limit);
+}
+
+/// Moves all prices of one heap into another and returns how many there are then.
+pub fn join(prices: &mut BinaryHeap<u32>, others: &mut BinaryHeap<u32>) -> Result<usize, AllocError>
+    ensures { IfOk result (λ all. all ≡ length prices.old.items + length others.old.items) }
+{
+    prices.append(others)?;
+    Ok(prices.len())
+}
+
+/// Makes a heap of std's heap, whose vector stays as it is.
+pub fn moved<T: Ord>(heap: collections::BinaryHeap<T>) -> BinaryHeap<T>
+    requires { IsHeap T.cmp (heap_items heap) }
+    ensures { result.items ≡ heap_items heap }
+{
+    BinaryHeap::from_raw_vec(heap.into_vec())
+}
+
+/// Returns the vector of a heap, for code that relies on the order that std's heap keeps.
+pub fn as_std<T: Ord>(heap: BinaryHeap<T>) -> Vec<T>
+    ensures { IsHeap T.cmp result.items }
+{
+    heap.into_vec()
+}
+
+/// Takes all items out of a heap, which is as a new one then.
+pub fn take_all<T: Ord, const D: usize>(
+    heap: &mut DaryHeap<T, D>,
+) -> Result<DaryHeap<T, D>, AllocError>
+    ensures taken { IfOk result (λ all. all ≡ heap.old) }
+    ensures left { OnOk result (heap.new.items ≡ []) }
+{
+    mem::try_take(heap)
+}
+
+/// Adds a price for a place. The heap of a place is made with its first price.
+///
+/// # Errors
+///
+/// Returns `AllocError` if memory allocation fails.
+pub fn add_at(
+    places: &mut collections::BTreeMap<u32, BinaryHeap<u32>>,
+    place: u32,
+    price: u32,
+) -> Result<(), AllocError> {
+    let prices = places.entry(place)?.or_default();
+    add_price(prices, price)
+}
+
+/// A market's prices. The heap has the trait `Clone`, and so a derive writes that of the struct.
+#[derive(Clone, Drop)]
+pub struct Market {
+    /// The prices.
+    pub prices: BinaryHeap<u32>,
+    /// The number of the market.
+    pub number: u32,
+}
