@@ -1,31 +1,38 @@
-/* Heap algorithms on arrays, in place.
+/* SPDX-License-Identifier: MIT OR Apache-2.0 */
+
+/* Binary and d-ary heaps (min-heaps, max-heaps, priority queues) in arrays of the caller, in place.
  *
- * A heap is an array in which no item comes before its parent: the item at place i above 0 has its parent
- * at place (i - 1) / arity. So the first item is one that no other comes before. The array is yours: no
- * function allocates memory or keeps a pointer.
+ * A heap is an array in which no item comes before its parent: the item at a place i above 0 has its parent at
+ * place (i - 1) / arity. So the first item is one that no other comes before. In a max-heap the greatest comes
+ * first, and in a min-heap the least. A priority queue is such an array with its length: `push` adds an item,
+ * items[0] is the next one, and `pop` takes it out. The array is yours. No function allocates memory or keeps a
+ * pointer.
  *
- * The functions do what make_heap, push_heap, pop_heap, sort_heap and is_heap do in C++, where the arity
- * is 2. Here it is the first argument, from 1 to 8.
+ * Names
  *
- * Which item comes first
+ *   dheap_max_push_i64
+ *         |   |    |
+ *         |   |    the items: i64 (int64_t), u64 (uint64_t), double, entry (struct dheap_entry) or
+ *         |   |    sequenced (struct dheap_sequenced)
+ *         |   make, push, pop, replace, fix, remove, mend, sort_heap, sort or is_heap
+ *         max-heap or min-heap
  *
- *   _i64             of int64_t, the greatest number
- *   _least_i64       of int64_t, the least number
- *   _entries         of struct dheap_entry, the greatest key
- *   _least_entries   of struct dheap_entry, the least key
+ * Doubles are compared by the total order of IEEE 754: -0.0 is less than 0.0, and a NaN is greater than all
+ * numbers, or less than all if its sign bit is set. The other numbers are ordered as by `<`.
  *
- * The value of an entry is moved with its key and never read. Of items with equal keys any may come
- * first. A function says nothing of their order.
+ * Arguments and results
  *
- * What a function returns
+ * The arguments are the array, its length, the arity, and what the function needs beyond. The arity is how many
+ * children a place may have, from 1 to DARY_HEAP_ARITY_MAX.
  *
- * true if the arity is 1 to 8. At any other arity the function returns false and changes nothing.
- * dheap_is_heap_* returns an int of three values instead: see there.
+ * Each function returns true if it did what it says. It returns false, and nothing is changed, if the arity
+ * isn't 1 to DARY_HEAP_ARITY_MAX, or a place or a start is out of the range that is said with the function. A
+ * compiler that can warns if you ignore the result.
  *
  * What you have to uphold
  *
  * - `items` points to `len` items, aligned as C aligns them, and isn't null, even if `len` is 0. For all
- *   functions but dheap_is_heap_* they are writable.
+ *   functions but `is_heap` they are writable.
  * - Nobody else writes these items during the call, and where the function may write, nobody reads them.
  *   Calls on different arrays may run at the same time.
  *
@@ -36,7 +43,12 @@
  *
  * In comparisons, at most. The depth of a place is how many steps it is from there to place 0: from arity
  * 2 on less than log(arity * n) to the base of the arity, for a place below n. At arity 1 it is the place.
- * A function makes no recursive call, and takes a constant amount of stack.
+ *
+ * Versions
+ *
+ * A program that is compiled with one version may be linked with a library of a later patch version, and from
+ * version 1 on of a later minor version. Before version 1 a new minor version may change or remove what is
+ * declared here.
  */
 #ifndef DARY_HEAP_C_H
 #define DARY_HEAP_C_H
@@ -45,68 +57,214 @@
 #include <stddef.h>
 #include <stdint.h>
 
+#define DARY_HEAP_VERSION_MAJOR 0
+#define DARY_HEAP_VERSION_MINOR 2
+#define DARY_HEAP_VERSION_PATCH 0
+
+/* The greatest arity. The least is 1. */
+#define DARY_HEAP_ARITY_MAX 8
+
+#if (defined(__cplusplus) && __cplusplus >= 201703L) || (defined(__STDC_VERSION__) && __STDC_VERSION__ >= 202311L)
+#define DARY_HEAP_MUST_USE [[nodiscard]]
+#elif defined(__GNUC__)
+#define DARY_HEAP_MUST_USE __attribute__((warn_unused_result))
+#else
+#define DARY_HEAP_MUST_USE
+#endif
+
 #ifdef __cplusplus
 extern "C" {
 #endif
 
-/* An item that is compared by its key alone. */
+/* An item that is compared by its key alone. Of equal keys any may come first. */
 struct dheap_entry {
     int64_t key;
-    uint64_t value; /* what you want to know of it: a number, an index, an address */
+    uint64_t value; /* what you want to know of it: a number, an index, an address. It is never read */
 };
 
-/* dheap_make_*: makes a heap of the items. Items that are a heap already stay where they are.
- *
- * Cost: 2 * (len - 1) from arity 2 on; len * (len - 1) / 2 at arity 1. */
-bool dheap_make_i64(size_t arity, int64_t *items, size_t len);
-bool dheap_make_least_i64(size_t arity, int64_t *items, size_t len);
-bool dheap_make_entries(size_t arity, struct dheap_entry *items, size_t len);
-bool dheap_make_least_entries(size_t arity, struct dheap_entry *items, size_t len);
+/* An item that is compared by its key, and then by its sequence number: of equal keys the lesser number comes
+ * first, in a max-heap as in a min-heap. Count up a number at each push, and equal keys come out in the order in
+ * which they came in. */
+struct dheap_sequenced {
+    int64_t key;
+    uint64_t sequence;
+    uint64_t value; /* as above */
+};
 
-/* dheap_push_*: adds the last item to the heap of the len - 1 items before it. So write the new item
- * behind the heap, and call this with its length counted in.
+/* dheap_max_make_*, dheap_min_make_*: makes a heap of the items. Items that are a heap already stay where
+ * they are.
  *
- * Cost: the depth of place len - 1. */
-bool dheap_push_i64(size_t arity, int64_t *items, size_t len);
-bool dheap_push_least_i64(size_t arity, int64_t *items, size_t len);
-bool dheap_push_entries(size_t arity, struct dheap_entry *items, size_t len);
-bool dheap_push_least_entries(size_t arity, struct dheap_entry *items, size_t len);
+ * Cost: 2 * (len - 1) from arity 2 on, and len * (len - 1) / 2 at arity 1. None if there is no item. */
+DARY_HEAP_MUST_USE bool dheap_max_make_i64(int64_t *items, size_t len, size_t arity);
+DARY_HEAP_MUST_USE bool dheap_max_make_u64(uint64_t *items, size_t len, size_t arity);
+DARY_HEAP_MUST_USE bool dheap_max_make_double(double *items, size_t len, size_t arity);
+DARY_HEAP_MUST_USE bool dheap_max_make_entry(struct dheap_entry *items, size_t len, size_t arity);
+DARY_HEAP_MUST_USE bool dheap_max_make_sequenced(struct dheap_sequenced *items, size_t len, size_t arity);
+DARY_HEAP_MUST_USE bool dheap_min_make_i64(int64_t *items, size_t len, size_t arity);
+DARY_HEAP_MUST_USE bool dheap_min_make_u64(uint64_t *items, size_t len, size_t arity);
+DARY_HEAP_MUST_USE bool dheap_min_make_double(double *items, size_t len, size_t arity);
+DARY_HEAP_MUST_USE bool dheap_min_make_entry(struct dheap_entry *items, size_t len, size_t arity);
+DARY_HEAP_MUST_USE bool dheap_min_make_sequenced(struct dheap_sequenced *items, size_t len, size_t arity);
 
-/* dheap_pop_*: moves the first item of the heap to items[len - 1]. The len - 1 items before it are a heap
- * afterwards.
+/* dheap_max_push_*, dheap_min_push_*: adds the last item to the heap of the items before it. So write the new
+ * item behind the heap, and call this with it counted in. If len is 0, nothing happens.
  *
- * Cost: the arity times the depth of place len - 2. */
-bool dheap_pop_i64(size_t arity, int64_t *items, size_t len);
-bool dheap_pop_least_i64(size_t arity, int64_t *items, size_t len);
-bool dheap_pop_entries(size_t arity, struct dheap_entry *items, size_t len);
-bool dheap_pop_least_entries(size_t arity, struct dheap_entry *items, size_t len);
+ * Cost: the depth of place len - 1. None if len is 0. */
+DARY_HEAP_MUST_USE bool dheap_max_push_i64(int64_t *items, size_t len, size_t arity);
+DARY_HEAP_MUST_USE bool dheap_max_push_u64(uint64_t *items, size_t len, size_t arity);
+DARY_HEAP_MUST_USE bool dheap_max_push_double(double *items, size_t len, size_t arity);
+DARY_HEAP_MUST_USE bool dheap_max_push_entry(struct dheap_entry *items, size_t len, size_t arity);
+DARY_HEAP_MUST_USE bool dheap_max_push_sequenced(struct dheap_sequenced *items, size_t len, size_t arity);
+DARY_HEAP_MUST_USE bool dheap_min_push_i64(int64_t *items, size_t len, size_t arity);
+DARY_HEAP_MUST_USE bool dheap_min_push_u64(uint64_t *items, size_t len, size_t arity);
+DARY_HEAP_MUST_USE bool dheap_min_push_double(double *items, size_t len, size_t arity);
+DARY_HEAP_MUST_USE bool dheap_min_push_entry(struct dheap_entry *items, size_t len, size_t arity);
+DARY_HEAP_MUST_USE bool dheap_min_push_sequenced(struct dheap_sequenced *items, size_t len, size_t arity);
 
-/* dheap_replace_*: the items were a heap, and then items[0] was overwritten by anything. They are a heap
- * afterwards. It is less work than a pop and a push.
+/* dheap_max_pop_*, dheap_min_pop_*: moves the first item of a heap to items[len - 1]. The items before it are a
+ * heap afterwards. If len is 0 or 1, nothing happens.
  *
- * Cost: the arity times the depth of place len - 1. */
-bool dheap_replace_i64(size_t arity, int64_t *items, size_t len);
-bool dheap_replace_least_i64(size_t arity, int64_t *items, size_t len);
-bool dheap_replace_entries(size_t arity, struct dheap_entry *items, size_t len);
-bool dheap_replace_least_entries(size_t arity, struct dheap_entry *items, size_t len);
+ * Cost: the arity times the depth of place len - 2. None if len is 0 or 1. */
+DARY_HEAP_MUST_USE bool dheap_max_pop_i64(int64_t *items, size_t len, size_t arity);
+DARY_HEAP_MUST_USE bool dheap_max_pop_u64(uint64_t *items, size_t len, size_t arity);
+DARY_HEAP_MUST_USE bool dheap_max_pop_double(double *items, size_t len, size_t arity);
+DARY_HEAP_MUST_USE bool dheap_max_pop_entry(struct dheap_entry *items, size_t len, size_t arity);
+DARY_HEAP_MUST_USE bool dheap_max_pop_sequenced(struct dheap_sequenced *items, size_t len, size_t arity);
+DARY_HEAP_MUST_USE bool dheap_min_pop_i64(int64_t *items, size_t len, size_t arity);
+DARY_HEAP_MUST_USE bool dheap_min_pop_u64(uint64_t *items, size_t len, size_t arity);
+DARY_HEAP_MUST_USE bool dheap_min_pop_double(double *items, size_t len, size_t arity);
+DARY_HEAP_MUST_USE bool dheap_min_pop_entry(struct dheap_entry *items, size_t len, size_t arity);
+DARY_HEAP_MUST_USE bool dheap_min_pop_sequenced(struct dheap_sequenced *items, size_t len, size_t arity);
 
-/* dheap_sort_*: sorts a heap. What comes first in the heap is last afterwards: without `least` the items
- * ascend, and with it they descend. They are no heap any more. The sort isn't stable.
+/* dheap_max_replace_*, dheap_min_replace_*: the items were a heap, and then items[0] was overwritten by anything.
+ * They are a heap afterwards. If len is 0, nothing happens.
+ *
+ * This does the work of a pop and a push in one way down. The new item is compared on its way down, so one that stays near
+ * the front costs little. One that sinks to the last depth takes the arity in comparisons for each level, where a
+ * pop and a push take one less a level and a short way up.
+ *
+ * Cost: the arity times the depth of place len - 1. None if len is 0. */
+DARY_HEAP_MUST_USE bool dheap_max_replace_i64(int64_t *items, size_t len, size_t arity);
+DARY_HEAP_MUST_USE bool dheap_max_replace_u64(uint64_t *items, size_t len, size_t arity);
+DARY_HEAP_MUST_USE bool dheap_max_replace_double(double *items, size_t len, size_t arity);
+DARY_HEAP_MUST_USE bool dheap_max_replace_entry(struct dheap_entry *items, size_t len, size_t arity);
+DARY_HEAP_MUST_USE bool dheap_max_replace_sequenced(struct dheap_sequenced *items, size_t len, size_t arity);
+DARY_HEAP_MUST_USE bool dheap_min_replace_i64(int64_t *items, size_t len, size_t arity);
+DARY_HEAP_MUST_USE bool dheap_min_replace_u64(uint64_t *items, size_t len, size_t arity);
+DARY_HEAP_MUST_USE bool dheap_min_replace_double(double *items, size_t len, size_t arity);
+DARY_HEAP_MUST_USE bool dheap_min_replace_entry(struct dheap_entry *items, size_t len, size_t arity);
+DARY_HEAP_MUST_USE bool dheap_min_replace_sequenced(struct dheap_sequenced *items, size_t len, size_t arity);
+
+/* dheap_max_fix_*, dheap_min_fix_*: the items were a heap, and then items[place] was overwritten by anything. They
+ * are a heap afterwards. Items that are a heap already stay where they are. The place has to be below len.
+ *
+ * Cost: the depth of the place, and the arity for each level from there down to that of place len - 1. */
+DARY_HEAP_MUST_USE bool dheap_max_fix_i64(int64_t *items, size_t len, size_t arity, size_t place);
+DARY_HEAP_MUST_USE bool dheap_max_fix_u64(uint64_t *items, size_t len, size_t arity, size_t place);
+DARY_HEAP_MUST_USE bool dheap_max_fix_double(double *items, size_t len, size_t arity, size_t place);
+DARY_HEAP_MUST_USE bool dheap_max_fix_entry(
+    struct dheap_entry *items, size_t len, size_t arity, size_t place);
+DARY_HEAP_MUST_USE bool dheap_max_fix_sequenced(
+    struct dheap_sequenced *items, size_t len, size_t arity, size_t place);
+DARY_HEAP_MUST_USE bool dheap_min_fix_i64(int64_t *items, size_t len, size_t arity, size_t place);
+DARY_HEAP_MUST_USE bool dheap_min_fix_u64(uint64_t *items, size_t len, size_t arity, size_t place);
+DARY_HEAP_MUST_USE bool dheap_min_fix_double(double *items, size_t len, size_t arity, size_t place);
+DARY_HEAP_MUST_USE bool dheap_min_fix_entry(
+    struct dheap_entry *items, size_t len, size_t arity, size_t place);
+DARY_HEAP_MUST_USE bool dheap_min_fix_sequenced(
+    struct dheap_sequenced *items, size_t len, size_t arity, size_t place);
+
+/* dheap_max_remove_*, dheap_min_remove_*: moves the item at a place of a heap to items[len - 1]. The items before it
+ * are a heap afterwards. The place has to be below len.
+ *
+ * Cost: that of a fix at the same place of len - 1 items. */
+DARY_HEAP_MUST_USE bool dheap_max_remove_i64(int64_t *items, size_t len, size_t arity, size_t place);
+DARY_HEAP_MUST_USE bool dheap_max_remove_u64(uint64_t *items, size_t len, size_t arity, size_t place);
+DARY_HEAP_MUST_USE bool dheap_max_remove_double(double *items, size_t len, size_t arity, size_t place);
+DARY_HEAP_MUST_USE bool dheap_max_remove_entry(
+    struct dheap_entry *items, size_t len, size_t arity, size_t place);
+DARY_HEAP_MUST_USE bool dheap_max_remove_sequenced(
+    struct dheap_sequenced *items, size_t len, size_t arity, size_t place);
+DARY_HEAP_MUST_USE bool dheap_min_remove_i64(int64_t *items, size_t len, size_t arity, size_t place);
+DARY_HEAP_MUST_USE bool dheap_min_remove_u64(uint64_t *items, size_t len, size_t arity, size_t place);
+DARY_HEAP_MUST_USE bool dheap_min_remove_double(double *items, size_t len, size_t arity, size_t place);
+DARY_HEAP_MUST_USE bool dheap_min_remove_entry(
+    struct dheap_entry *items, size_t len, size_t arity, size_t place);
+DARY_HEAP_MUST_USE bool dheap_min_remove_sequenced(
+    struct dheap_sequenced *items, size_t len, size_t arity, size_t place);
+
+/* dheap_max_mend_*, dheap_min_mend_*: the items before `start` are a heap, and those from there on were written
+ * behind them. All are a heap afterwards. The start has to be at most len: if it is len, nothing happens.
+ *
+ * Cost: the greater of that of a make and, for each item from `start` on, the depth of place len - 1. None if
+ * start is len. */
+DARY_HEAP_MUST_USE bool dheap_max_mend_i64(int64_t *items, size_t len, size_t arity, size_t start);
+DARY_HEAP_MUST_USE bool dheap_max_mend_u64(uint64_t *items, size_t len, size_t arity, size_t start);
+DARY_HEAP_MUST_USE bool dheap_max_mend_double(double *items, size_t len, size_t arity, size_t start);
+DARY_HEAP_MUST_USE bool dheap_max_mend_entry(
+    struct dheap_entry *items, size_t len, size_t arity, size_t start);
+DARY_HEAP_MUST_USE bool dheap_max_mend_sequenced(
+    struct dheap_sequenced *items, size_t len, size_t arity, size_t start);
+DARY_HEAP_MUST_USE bool dheap_min_mend_i64(int64_t *items, size_t len, size_t arity, size_t start);
+DARY_HEAP_MUST_USE bool dheap_min_mend_u64(uint64_t *items, size_t len, size_t arity, size_t start);
+DARY_HEAP_MUST_USE bool dheap_min_mend_double(double *items, size_t len, size_t arity, size_t start);
+DARY_HEAP_MUST_USE bool dheap_min_mend_entry(
+    struct dheap_entry *items, size_t len, size_t arity, size_t start);
+DARY_HEAP_MUST_USE bool dheap_min_mend_sequenced(
+    struct dheap_sequenced *items, size_t len, size_t arity, size_t start);
+
+/* dheap_max_sort_heap_*, dheap_min_sort_heap_*: sorts a heap. What comes first in the heap is last afterwards: a
+ * max-heap ascends, and a min-heap descends. The items are no heap any more. Items that aren't a heap are moved
+ * and not sorted: dheap_max_sort_* sorts any items.
  *
  * Cost: that of a pop at each length from len down to 2. */
-bool dheap_sort_i64(size_t arity, int64_t *items, size_t len);
-bool dheap_sort_least_i64(size_t arity, int64_t *items, size_t len);
-bool dheap_sort_entries(size_t arity, struct dheap_entry *items, size_t len);
-bool dheap_sort_least_entries(size_t arity, struct dheap_entry *items, size_t len);
+DARY_HEAP_MUST_USE bool dheap_max_sort_heap_i64(int64_t *items, size_t len, size_t arity);
+DARY_HEAP_MUST_USE bool dheap_max_sort_heap_u64(uint64_t *items, size_t len, size_t arity);
+DARY_HEAP_MUST_USE bool dheap_max_sort_heap_double(double *items, size_t len, size_t arity);
+DARY_HEAP_MUST_USE bool dheap_max_sort_heap_entry(struct dheap_entry *items, size_t len, size_t arity);
+DARY_HEAP_MUST_USE bool dheap_max_sort_heap_sequenced(
+    struct dheap_sequenced *items, size_t len, size_t arity);
+DARY_HEAP_MUST_USE bool dheap_min_sort_heap_i64(int64_t *items, size_t len, size_t arity);
+DARY_HEAP_MUST_USE bool dheap_min_sort_heap_u64(uint64_t *items, size_t len, size_t arity);
+DARY_HEAP_MUST_USE bool dheap_min_sort_heap_double(double *items, size_t len, size_t arity);
+DARY_HEAP_MUST_USE bool dheap_min_sort_heap_entry(struct dheap_entry *items, size_t len, size_t arity);
+DARY_HEAP_MUST_USE bool dheap_min_sort_heap_sequenced(
+    struct dheap_sequenced *items, size_t len, size_t arity);
 
-/* dheap_is_heap_*: returns 1 if the items are a heap, 0 if they aren't, and -1 if the arity isn't 1 to 8.
- * Compare the answer with 1: in an `if` alone -1 counts as true.
+/* dheap_max_sort_*, dheap_min_sort_*: sorts the items, whatever they are: makes a heap of them, and sorts that.
+ * With `max` they ascend afterwards, and with `min` they descend. It isn't stable. Of equal keys of
+ * dheap_sequenced the lesser sequence number stands behind the greater ones.
  *
- * Cost: len - 1. */
-int dheap_is_heap_i64(size_t arity, const int64_t *items, size_t len);
-int dheap_is_heap_least_i64(size_t arity, const int64_t *items, size_t len);
-int dheap_is_heap_entries(size_t arity, const struct dheap_entry *items, size_t len);
-int dheap_is_heap_least_entries(size_t arity, const struct dheap_entry *items, size_t len);
+ * Cost: that of a make and a sort_heap. */
+DARY_HEAP_MUST_USE bool dheap_max_sort_i64(int64_t *items, size_t len, size_t arity);
+DARY_HEAP_MUST_USE bool dheap_max_sort_u64(uint64_t *items, size_t len, size_t arity);
+DARY_HEAP_MUST_USE bool dheap_max_sort_double(double *items, size_t len, size_t arity);
+DARY_HEAP_MUST_USE bool dheap_max_sort_entry(struct dheap_entry *items, size_t len, size_t arity);
+DARY_HEAP_MUST_USE bool dheap_max_sort_sequenced(struct dheap_sequenced *items, size_t len, size_t arity);
+DARY_HEAP_MUST_USE bool dheap_min_sort_i64(int64_t *items, size_t len, size_t arity);
+DARY_HEAP_MUST_USE bool dheap_min_sort_u64(uint64_t *items, size_t len, size_t arity);
+DARY_HEAP_MUST_USE bool dheap_min_sort_double(double *items, size_t len, size_t arity);
+DARY_HEAP_MUST_USE bool dheap_min_sort_entry(struct dheap_entry *items, size_t len, size_t arity);
+DARY_HEAP_MUST_USE bool dheap_min_sort_sequenced(struct dheap_sequenced *items, size_t len, size_t arity);
+
+/* dheap_max_is_heap_*, dheap_min_is_heap_*: writes to *answer whether the items are a heap. `answer` points to a
+ * bool.
+ *
+ * Cost: len - 1. None if len is 0. */
+DARY_HEAP_MUST_USE bool dheap_max_is_heap_i64(const int64_t *items, size_t len, size_t arity, bool *answer);
+DARY_HEAP_MUST_USE bool dheap_max_is_heap_u64(const uint64_t *items, size_t len, size_t arity, bool *answer);
+DARY_HEAP_MUST_USE bool dheap_max_is_heap_double(const double *items, size_t len, size_t arity, bool *answer);
+DARY_HEAP_MUST_USE bool dheap_max_is_heap_entry(
+    const struct dheap_entry *items, size_t len, size_t arity, bool *answer);
+DARY_HEAP_MUST_USE bool dheap_max_is_heap_sequenced(
+    const struct dheap_sequenced *items, size_t len, size_t arity, bool *answer);
+DARY_HEAP_MUST_USE bool dheap_min_is_heap_i64(const int64_t *items, size_t len, size_t arity, bool *answer);
+DARY_HEAP_MUST_USE bool dheap_min_is_heap_u64(const uint64_t *items, size_t len, size_t arity, bool *answer);
+DARY_HEAP_MUST_USE bool dheap_min_is_heap_double(const double *items, size_t len, size_t arity, bool *answer);
+DARY_HEAP_MUST_USE bool dheap_min_is_heap_entry(
+    const struct dheap_entry *items, size_t len, size_t arity, bool *answer);
+DARY_HEAP_MUST_USE bool dheap_min_is_heap_sequenced(
+    const struct dheap_sequenced *items, size_t len, size_t arity, bool *answer);
 
 #ifdef __cplusplus
 }

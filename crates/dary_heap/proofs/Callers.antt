@@ -27,6 +27,7 @@ pub use Rattle.dary_heap.proofs.Bags.{Contains-cases, Contains-first, Contains-l
 pub use Rattle.dary_heap.proofs.Bounded.{upper_bound, upper_bound_left}
 pub use Rattle.dary_heap.proofs.Callable.{takes_in_turn, all_callable}
 pub use Rattle.dary_heap.proofs.Cancelling.{IsPermutation-uncons}
+pub use Rattle.dary_heap.proofs.Fixing.{ordered_but_at, overwritten}
 pub use Rattle.dary_heap.proofs.FromStd.{std_heap_from_ordered, ordered_from_std_heap, descending_at, extend_fits, on_ok_of}
 pub use Rattle.dary_heap.proofs.Lowering.{sum_falls}
 pub use Rattle.dary_heap.proofs.Order.{not_greater-self, not_greater-trans}

@@ -48,3 +48,4 @@ pub mod WalksAt
 pub mod HoleSeen
 pub mod Holes
 pub mod SlotsLent
+pub mod Fixing

@@ -28,6 +28,10 @@ build_bound D n = if nat_lt D 2 then n * (n - 1) / 2 else 2 * (n - 1)
 abbrev pub mend_bound : ℕ → ℕ → ℕ → ℕ
 mend_bound D n k = if k == 0 then 0 else max (build_bound D n) (k * depth D (n - 1))
 
+-- fixing the item at a place of n items: as a push to that place, and as sifting down from there to the last depth
+abbrev pub fix_bound : ℕ → ℕ → ℕ → ℕ
+fix_bound D n place = depth D place + arity D * (depth D (n - 1) - depth D place)
+
 -- popping n items until none is left
 abbrev pub pops_bound : ℕ → ℕ → ℕ
 pops_bound D zero = 0

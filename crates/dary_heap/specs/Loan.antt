@@ -13,7 +13,7 @@ abbrev pub IsExceeded : {T : Type 0} → (T → T → Ordering) → List T → T
 IsExceeded cmp [] = ⊥
 IsExceeded cmp (held ∷ rest) = HasGreater cmp rest held
 
--- there is a first item, and the items are heap ordered, but between the first and its children once it was written
+-- there is a first item, and the items are heap ordered, except that the first may be exceeded by its children once it was written
 pub record IsLent {T : Type 0} (cmp : T → T → Ordering) (D : ℕ) (written : Bool) (items : List T) : Type 0 where
   pub some : 0 < length items
   pub below_root : IsHeapOrderedBelowRoot cmp D items

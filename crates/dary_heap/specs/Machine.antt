@@ -1,5 +1,5 @@
 -- The bag machine: what each command may reply, and the state that it leaves. A state is a bag with its front. The machine knows no arity, no vector and no memory:
--- a reply that stands for want of memory is a step wherever the other conditions on it hold.
+-- a reply that says that memory allocation failed is a step if the other conditions on it hold.
 use Rattle.std.specs.Prelude.{◌≡◌, ◌≢◌, ◌⊎◌, ℕ, zero, suc, ◌<◌, Bool, true, false, List, [], ◌∷◌, ◌++◌, length, take, Option, Some, None}
 use Rattle.std.specs.List.Retain.{IsFiltered}
 use Rattle.std.specs.declared.cmp.Ordering.{Ordering}

@@ -18,7 +18,7 @@ IsSettled (Append other) = ⊥
 IsSettled (Drain k) = ⊥
 IsSettled command = Unit {0}
 
--- nothing was refused for want of memory
+-- the reply doesn't say that memory allocation failed
 abbrev pub IsUnrefused : {T : Type 0} → Reply T → Type 0
 IsUnrefused (PushRefused x) = ⊥
 IsUnrefused ExtendRefused = ⊥

@@ -5,8 +5,7 @@
 //! its first item is a greatest one.
 //!
 //! Names and behaviour of the calls are those of std's `BinaryHeap` and of the Rust crate
-//! `dary_heap`. `docs/RULES.md` has the rules that they follow, and `docs/DIFFERENCES.md` what
-//! differs from the crate.
+//! `dary_heap`. `RULES.md` has the rules that they follow.
 ghost use Rattle.std.specs.Prelude.{◌≡◌, ◌+◌, ◌-◌, ◌<◌, ◌≤◌, ◌↔◌, [], ◌∷◌, ℕ, length, slice_get, vec_capacity, Some, IsSome, IfSome, IfNone, OnOk, OnErr, IfErr, IsOk, is_ok, if◌then◌else◌, ◌==◌};
 ghost use Rattle.std.specs.BinaryHeap.{IsUpperBound};
 ghost use Rattle.std.specs.Option.{option_copied};

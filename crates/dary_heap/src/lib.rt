@@ -34,7 +34,7 @@
 //!
 //! Any other arity is written `DaryHeap<T, D>`. Arity 1 keeps a sorted vector, and arity 0 acts as
 //! arity 1. A greater arity makes the tree flatter: a push takes fewer comparisons, a pop more.
-//! `docs/SPEED.md` has the measurements behind this table:
+//! This table comes from measurements:
 //!
 //! | use | arity |
 //! |---|---|
@@ -54,9 +54,9 @@
 //! | [`pop`](DaryHeap::pop), [`pop_if`](DaryHeap::pop_if), [`PeekMut::pop`] | `D` times the depth of the last place: *O*(log *n*) |
 //! | [`peek_mut`](DaryHeap::peek_mut) | none; if the item is written, `D` times the depth of the last place |
 //! | `from` of a vector, [`from_array`](DaryHeap::from_array), `collect`, [`clone`](DaryHeap::clone) | `2 * (n - 1)` |
-//! | `extend` by `k` items, [`append`](DaryHeap::append) of `k` items | `2 * (n - 1)`, or `k` times the depth of the last place if that is more |
+//! | `extend` by `k` items, [`append`](DaryHeap::append) of heaps of which the shorter has `k` | `2 * (n - 1)`, or `k` times the depth of the last place if that is more |
 //! | [`retain`](DaryHeap::retain) | the same, with the kept items from the first removed one on as `k` |
-//! | [`into_iter_sorted`](DaryHeap::into_iter_sorted), [`drain_sorted`](DaryHeap::drain_sorted) | a pop for each item |
+//! | [`into_iter_sorted`](DaryHeap::into_iter_sorted), [`drain_sorted`](DaryHeap::drain_sorted), [`into_sorted_vec`](DaryHeap::into_sorted_vec) | a pop for each item |
 //! | [`peek`](DaryHeap::peek), [`len`](DaryHeap::len), [`iter`](DaryHeap::iter), [`drain`](DaryHeap::drain), [`into_vec`](DaryHeap::into_vec), [`clear`](DaryHeap::clear), [`reserve`](DaryHeap::reserve) and all others | none |
 //!
 //! The depth of a place is the number of steps from it up to the first place: at most the logarithm
@@ -72,7 +72,7 @@
 //! - [`peek_mut`] has [`PeekMut`], through which a heap's greatest item is read and written;
 //! - [`iter`] has the iterators over the items of a heap, as they are stored or in descending
 //!   order;
-//! - [`run`] carries lists of commands out, against the machine that says what a heap may answer;
+//! - [`run`] carries lists of commands out, by the machine that says what a heap may reply;
 //! - [`shortest_path`] searches a graph for a cheapest walk, over a heap.
 #![tactic(auto)]
 

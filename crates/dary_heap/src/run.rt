@@ -114,11 +114,11 @@ pub enum Reply<T: Ord, const D: usize> {
 /// The replies and the items are a run of the bag machine. Its front is the first item of
 /// [`as_slice`](DaryHeap::as_slice), at the start and at the end.
 ///
-/// As many pushes as there is room for at the start, or as a [`Command::Reserve`] that was carried
-/// out asked for, don't fail, as long as only pushes, pops, questions and counts come before them.
-/// If nothing else comes at all, there is room for the rest of them afterwards. A drain and a loan
-/// reserve room for their reply before they begin. On an empty heap they never fail, nor does a
-/// drain of no items or a loan without acts.
+/// If there is room for `n` items at the start, or after a [`Command::Reserve`] of `n` that was
+/// carried out, the next `n` pushes succeed if only pushes, pops, questions and counts come
+/// between. If nothing else comes at all, there is room for the rest of them afterwards. A drain
+/// and a loan reserve room for their reply before they begin. On an empty heap they never fail, nor
+/// does a drain of no items or a loan without acts.
 ///
 /// # Preconditions
 ///
@@ -195,7 +195,8 @@ pub fn run<T: Ord + Drop, const D: usize, P: FnMut(&T) -> bool>(
     Ok(replies)
 }
 
-/// States a law: without ties, the arity is a matter of speed alone. It does nothing when it runs.
+/// States a law: without ties, the replies are the same at every arity. It does nothing when it
+/// runs.
 ///
 /// Take any two runs of the bag machine from states with the same bag, by the same commands. No
 /// command holds a predicate or a heap or drains in slice order, no two different values of the bag

@@ -105,8 +105,8 @@ pub enum PathRefusal {
 /// # Errors
 ///
 /// Returns [`PathRefusal::NoMemory`] if memory allocation fails: for the table, which has a number
-/// for each node, or for the states that wait. Those are never more than the edges of the graph,
-/// and one.
+/// for each node, or for the heap of the states that were pushed and not popped yet. Those are
+/// never more than the edges of the graph, and one.
 ///
 /// Returns [`PathRefusal::CostTooLarge`] if costs get too large for a `usize`. Call a node other
 /// than the goal that a walk reaches *critical* if its least cost, with what one of its edges

@@ -1,11 +1,16 @@
-/* Calls each function of the library at each arity on many arrays, compares what it does with the
- * definition of a heap, and prints how many answers are wrong. The expected answers are computed here,
- * from the definitions. */
+/* Calls each function of the library at each arity on many arrays, compares what it does with the definition of a
+ * heap, and prints how many answers are wrong. The expected answers are computed here, from the definitions. With
+ * the word `short` it leaves out the arrays of many megabytes. */
+#define _DEFAULT_SOURCE
 #include "dary_heap_c.h"
 
+#include <float.h>
+#include <math.h>
 #include <stdio.h>
 #include <stdlib.h>
 #include <string.h>
+#include <sys/mman.h>
+#include <unistd.h>
 
 #define LONGEST 70
 
@@ -19,12 +24,45 @@ static void check(bool right, const char *function, size_t arity, size_t len, co
     printf("dary_heap_c: %s at arity %zu, length %zu: %s\n", function, arity, len, what);
 }
 
+/* Where the items of a test stand. */
+enum place { BETWEEN_GUARDS, BEFORE_A_PAGE, BEHIND_A_PAGE, PLACES };
+
+/* A page between two that can't be read or written. */
+static char *page;
+static size_t page_size;
+
+static void make_page(void) {
+    page_size = (size_t)sysconf(_SC_PAGESIZE);
+    char *const pages = mmap(NULL, 3 * page_size, PROT_NONE, MAP_PRIVATE | MAP_ANONYMOUS, -1, 0);
+    if (pages == MAP_FAILED || mprotect(pages + page_size, page_size, PROT_READ | PROT_WRITE) != 0)
+        abort();
+    page = pages + page_size;
+}
+
+/* Room for so many items. Beside it is room for a guard, or a page where a read or a write ends the program. */
+static void *array(enum place where, size_t len, size_t size) {
+    switch (where) {
+    case BEFORE_A_PAGE:
+        return page + page_size - len * size;
+    case BEHIND_A_PAGE:
+        return page;
+    default:
+        return page + size;
+    }
+}
+
+/* Lets the page be read alone, or written again. */
+static void protect(bool reads_only) {
+    if (mprotect(page, page_size, reads_only ? PROT_READ : PROT_READ | PROT_WRITE) != 0)
+        abort();
+}
+
 /* Random numbers, the same in each run. */
 static uint64_t state = 1;
 
 static uint64_t drawn(uint64_t below) {
     state = state * 6364136223846793005u + 1442695040888963407u;
-    return (state >> 33) % below;
+    return (state >> 20) % below;
 }
 
 /* A key. Every third array has few different ones, and every third has the ends of the range. */
@@ -39,71 +77,188 @@ static int64_t drawn_key(size_t kind) {
     }
 }
 
-static int64_t number_of(int64_t key, uint64_t value) {
+/* The sum of the hashes of some items of words, whatever their order. */
+static uint64_t sum_of(const void *items, size_t len, size_t size) {
+    uint64_t sum = 0;
+    for (size_t i = 0; i < len; i++) {
+        uint64_t hash = 0, word;
+        for (size_t at = 0; at < size; at += sizeof word) {
+            memcpy(&word, (const char *)items + i * size + at, sizeof word);
+            hash = (hash ^ word) * UINT64_C(0x9e3779b97f4a7c15);
+            hash ^= hash >> 29;
+        }
+        sum += hash;
+    }
+    return sum;
+}
+
+static int64_t i64_of(int64_t key, uint64_t value) {
     (void)value;
     return key;
 }
 
-static struct dheap_entry entry_of(int64_t key, uint64_t value) {
-    return (struct dheap_entry){key, value};
+static uint64_t u64_of(int64_t key, uint64_t value) {
+    (void)value;
+    return (uint64_t)key ^ (UINT64_C(1) << 63);
 }
 
-static int by_bytes(const void *a, const void *b) {
-    return memcmp(a, b, sizeof(int64_t));
+/* The ends of the range stand for the values that aren't finite, and the keys about 0 for those about 0. */
+static double double_of(int64_t key, uint64_t value) {
+    const double least[] = {-NAN, -INFINITY, -DBL_MAX}, greatest[] = {NAN, INFINITY, DBL_MAX};
+    if (key < INT64_MIN + 3)
+        return copysign(least[key - INT64_MIN], -1);
+    if (key > INT64_MAX - 3)
+        return copysign(greatest[INT64_MAX - key], 1);
+    if (key == 0)
+        return value % 2 ? -0.0 : 0.0;
+    return key == 1 ? DBL_TRUE_MIN : key == -1 ? -DBL_TRUE_MIN : (double)key;
 }
 
-static int entries_by_bytes(const void *a, const void *b) {
-    return memcmp(a, b, sizeof(struct dheap_entry));
+/* The total order of IEEE 754: first the sign, and then the other bits, which count down if it is set. */
+static bool double_less(double a, double b) {
+    uint64_t x, y;
+    memcpy(&x, &a, sizeof x);
+    memcpy(&y, &b, sizeof y);
+    if (signbit(a) != signbit(b))
+        return signbit(a);
+    return signbit(a) ? y << 1 < x << 1 : x << 1 < y << 1;
 }
 
+static struct dheap_entry entry_of(int64_t key, uint64_t value) { return (struct dheap_entry){key, value}; }
+
+static struct dheap_sequenced sequenced_of(int64_t key, uint64_t value) {
+    return (struct dheap_sequenced){key, value, value};
+}
+
+#define ORDER max
 #define KIND i64
 #define ITEM int64_t
-#define ITEM_OF number_of
-#define KEY_OF(item) (item)
+#define ITEM_OF i64_of
 #define COMES_BEFORE(a, b) ((a) > (b))
-#define BY_BYTES by_bytes
 #include "kind.h"
 
-#define KIND least_i64
+#define ORDER min
+#define KIND i64
 #define ITEM int64_t
-#define ITEM_OF number_of
-#define KEY_OF(item) (item)
+#define ITEM_OF i64_of
 #define COMES_BEFORE(a, b) ((a) < (b))
-#define BY_BYTES by_bytes
 #include "kind.h"
 
-#define KIND entries
-#define ITEM struct dheap_entry
-#define ITEM_OF entry_of
-#define KEY_OF(item) ((item).key)
+#define ORDER max
+#define KIND u64
+#define ITEM uint64_t
+#define ITEM_OF u64_of
 #define COMES_BEFORE(a, b) ((a) > (b))
-#define BY_BYTES entries_by_bytes
 #include "kind.h"
 
-#define KIND least_entries
+#define ORDER min
+#define KIND u64
+#define ITEM uint64_t
+#define ITEM_OF u64_of
+#define COMES_BEFORE(a, b) ((a) < (b))
+#include "kind.h"
+
+#define ORDER max
+#define KIND double
+#define ITEM double
+#define ITEM_OF double_of
+#define COMES_BEFORE(a, b) double_less(b, a)
+#include "kind.h"
+
+#define ORDER min
+#define KIND double
+#define ITEM double
+#define ITEM_OF double_of
+#define COMES_BEFORE(a, b) double_less(a, b)
+#include "kind.h"
+
+#define ORDER max
+#define KIND entry
 #define ITEM struct dheap_entry
 #define ITEM_OF entry_of
-#define KEY_OF(item) ((item).key)
-#define COMES_BEFORE(a, b) ((a) < (b))
-#define BY_BYTES entries_by_bytes
+#define COMES_BEFORE(a, b) ((a).key > (b).key)
 #include "kind.h"
 
-int main(void) {
-    for (size_t arity = 1; arity <= 8; arity++) {
+#define ORDER min
+#define KIND entry
+#define ITEM struct dheap_entry
+#define ITEM_OF entry_of
+#define COMES_BEFORE(a, b) ((a).key < (b).key)
+#include "kind.h"
+
+#define ORDER max
+#define KIND sequenced
+#define ITEM struct dheap_sequenced
+#define ITEM_OF sequenced_of
+#define COMES_BEFORE(a, b) ((a).key > (b).key || ((a).key == (b).key && (a).sequence < (b).sequence))
+#include "kind.h"
+
+#define ORDER min
+#define KIND sequenced
+#define ITEM struct dheap_sequenced
+#define ITEM_OF sequenced_of
+#define COMES_BEFORE(a, b) ((a).key < (b).key || ((a).key == (b).key && (a).sequence < (b).sequence))
+#include "kind.h"
+
+/* The functions of each kind and order. */
+#define EACH(call) \
+    call(max, i64, int64_t) \
+    call(min, i64, int64_t) \
+    call(max, u64, uint64_t) \
+    call(min, u64, uint64_t) \
+    call(max, double, double) \
+    call(min, double, double) \
+    call(max, entry, struct dheap_entry) \
+    call(min, entry, struct dheap_entry) \
+    call(max, sequenced, struct dheap_sequenced) \
+    call(min, sequenced, struct dheap_sequenced)
+
+#define TEST(order, kind, item) test_##order##_##kind(arity, len, where);
+#define TEST_LONG(order, kind, item) test_long_##order##_##kind(arity, LONG(item));
+
+/* From so many bytes on, times the arity, the library goes down in another way. */
+#define LONG(item) (((size_t)arity << 21) / sizeof(item) + 1000)
+
+/* Items with few different keys come out in the order of their keys, and equal ones in the order in which they came
+ * in. */
+static void test_turns(size_t arity, bool is_max) {
+    struct dheap_sequenced items[LONGEST];
+    size_t len = 0;
+    for (; len < LONGEST; len++) {
+        items[len] = (struct dheap_sequenced){(int64_t)drawn(4), len, 1000 + len};
+        check(is_max ? dheap_max_push_sequenced(items, len + 1, arity) : dheap_min_push_sequenced(items, len + 1, arity),
+              "push_sequenced", arity, len, "it returns false");
+    }
+    struct dheap_sequenced before = items[0];
+    for (size_t left = len; left > 0; left--) {
+        const struct dheap_sequenced item = items[0];
+        check(is_max ? dheap_max_pop_sequenced(items, left, arity) : dheap_min_pop_sequenced(items, left, arity),
+              "pop_sequenced", arity, left, "it returns false");
+        const bool later_key = is_max ? item.key < before.key : item.key > before.key;
+        const bool later = item.key == before.key && item.sequence > before.sequence;
+        check(left == len || later_key || later, "pop_sequenced", arity, left, "it comes out of turn");
+        check(item.value == 1000 + item.sequence, "pop_sequenced", arity, left, "it has another value");
+        before = item;
+    }
+}
+
+int main(int words, char **word) {
+    make_page();
+    for (size_t arity = 1; arity <= DARY_HEAP_ARITY_MAX; arity++) {
         for (size_t len = 0; len <= LONGEST; len++) {
-            test_i64(arity, len);
-            test_least_i64(arity, len);
-            test_entries(arity, len);
-            test_least_entries(arity, len);
+            for (enum place where = 0; where < PLACES; where++) {
+                EACH(TEST)
+            }
         }
+        test_turns(arity, true);
+        test_turns(arity, false);
     }
-    const size_t unknown[] = {0, 9, 10, SIZE_MAX};
-    for (size_t i = 0; i < sizeof unknown / sizeof *unknown; i++) {
-        test_unknown_i64(unknown[i]);
-        test_unknown_least_i64(unknown[i]);
-        test_unknown_entries(unknown[i]);
-        test_unknown_least_entries(unknown[i]);
+    const bool is_short = words > 1 && strcmp(word[1], "short") == 0;
+    const size_t arities[] = {2, 3, 4, 8};
+    for (size_t i = 0; !is_short && i < sizeof arities / sizeof *arities; i++) {
+        const size_t arity = arities[i];
+        EACH(TEST_LONG)
     }
-    printf("dary_heap_c: %d of %d answers are wrong\n", wrong, checks);
+    printf("dary_heap_c: %d of %d answers are wrong%s\n", wrong, checks, is_short ? ", without long arrays" : "");
     return wrong != 0;
 }

@@ -21,15 +21,19 @@ void check(bool right, const char *what, const char *kind, std::size_t len) {
 
 // The functions of one kind, and the order whose greatest item comes first in C++.
 template <typename Item, typename Less> struct Kind {
+    using Call = bool (*)(Item *, std::size_t, std::size_t);
+    using CallAt = bool (*)(Item *, std::size_t, std::size_t, std::size_t);
     const char *name;
-    bool (*make)(std::size_t, Item *, std::size_t);
-    bool (*push)(std::size_t, Item *, std::size_t);
-    bool (*pop)(std::size_t, Item *, std::size_t);
-    bool (*replace)(std::size_t, Item *, std::size_t);
-    bool (*sort)(std::size_t, Item *, std::size_t);
-    int (*is_heap)(std::size_t, const Item *, std::size_t);
+    Call make, push, pop, replace, sort_heap, sort;
+    CallAt fix, remove, mend;
+    bool (*tell)(const Item *, std::size_t, std::size_t, bool *);
     Item (*item)(std::int64_t, std::uint64_t);
     Less less;
+
+    bool is_heap(const std::vector<Item> &items, std::size_t len) const {
+        bool answer = false;
+        return tell(items.data(), len, 2, &answer) && answer;
+    }
 };
 
 // Whether the keys stand in the same order. Equal keys may have other values.
@@ -52,29 +56,31 @@ void beside(const Kind<Item, Less> &kind, std::size_t len, std::int64_t most, st
     // data() of an empty vector may be null
     given.reserve(len + 1);
 
-    check(kind.is_heap(2, given.data(), len) == int(is_heap(given, len)), "is_heap", kind.name, len);
-    std::vector<Item> ours = given, theirs = given;
+    check(kind.is_heap(given, len) == is_heap(given, len), "is_heap", kind.name, len);
+    std::vector<Item> ours = given, theirs = given, sorted = given;
     ours.reserve(len + 1);
-    check(kind.make(2, ours.data(), len) && is_heap(ours, len), "make", kind.name, len);
-    std::make_heap(theirs.begin(), theirs.end(), less);
     theirs.reserve(len + 1);
-    check(kind.is_heap(2, theirs.data(), len) == 1, "is_heap of make_heap", kind.name, len);
+    check(kind.make(ours.data(), len, 2) && is_heap(ours, len), "make", kind.name, len);
+    std::make_heap(theirs.begin(), theirs.end(), less);
+    check(kind.is_heap(theirs, len), "is_heap of make_heap", kind.name, len);
 
     // their heap is popped here, and ours there
-    std::vector<Item> popped = theirs, mixed = ours;
+    std::vector<Item> popped = theirs, mixed = ours, any = given;
     popped.reserve(len + 1);
+    mixed.reserve(len + 1);
+    any.reserve(len + 1);
     for (std::size_t left = len; left > 0; left--) {
-        check(kind.pop(2, popped.data(), left) && is_heap(popped, left - 1), "pop", kind.name, left);
+        check(kind.pop(popped.data(), left, 2) && is_heap(popped, left - 1), "pop", kind.name, left);
         std::pop_heap(mixed.begin(), mixed.begin() + left, less);
-        mixed.reserve(len + 1);
-        check(kind.is_heap(2, mixed.data(), left - 1) == 1, "is_heap of pop_heap", kind.name, left);
+        check(kind.is_heap(mixed, left - 1), "is_heap of pop_heap", kind.name, left);
     }
-    std::vector<Item> sorted = given;
     std::sort(sorted.begin(), sorted.end(), less);
     check(same_keys(popped, sorted, less), "pops", kind.name, len);
     check(same_keys(mixed, sorted, less), "pops of C++", kind.name, len);
-    check(kind.sort(2, ours.data(), len) && same_keys(ours, sorted, less), "sort", kind.name, len);
-    check(kind.sort(2, theirs.data(), len) && same_keys(theirs, sorted, less), "sort of make_heap", kind.name, len);
+    check(kind.sort_heap(ours.data(), len, 2) && same_keys(ours, sorted, less), "sort_heap", kind.name, len);
+    check(kind.sort_heap(theirs.data(), len, 2) && same_keys(theirs, sorted, less), "sort_heap of make_heap", kind.name,
+          len);
+    check(kind.sort(any.data(), len, 2) && same_keys(any, sorted, less), "sort", kind.name, len);
 
     // a push here and one there by turns
     std::vector<Item> pushed;
@@ -82,49 +88,69 @@ void beside(const Kind<Item, Less> &kind, std::size_t len, std::int64_t most, st
     for (std::size_t i = 0; i < len; i++) {
         pushed.push_back(given[i]);
         if (i % 2 == 0)
-            kind.push(2, pushed.data(), pushed.size());
+            check(kind.push(pushed.data(), pushed.size(), 2), "push", kind.name, i + 1);
         else
             std::push_heap(pushed.begin(), pushed.end(), less);
         check(is_heap(pushed, i + 1), "push", kind.name, i + 1);
     }
     for (std::size_t i = 0; len > 0 && i < 10; i++) {
         pushed[0] = kind.item(key(random), len + i);
-        check(kind.replace(2, pushed.data(), len) && is_heap(pushed, len), "replace", kind.name, len);
+        check(kind.replace(pushed.data(), len, 2) && is_heap(pushed, len), "replace", kind.name, len);
+        const std::size_t place = random() % len;
+        pushed[place] = kind.item(key(random), len + i);
+        check(kind.fix(pushed.data(), len, 2, place) && is_heap(pushed, len), "fix", kind.name, len);
+    }
+    if (len > 0) {
+        check(kind.remove(pushed.data(), len, 2, random() % len) && is_heap(pushed, len - 1), "remove", kind.name, len);
+        check(kind.mend(pushed.data(), len, 2, len - 1) && is_heap(pushed, len), "mend", kind.name, len);
     }
 }
 
-std::int64_t number(std::int64_t key, std::uint64_t) { return key; }
+std::int64_t i64(std::int64_t key, std::uint64_t) { return key; }
+
+std::uint64_t u64(std::int64_t key, std::uint64_t) { return std::uint64_t(key) + (std::uint64_t{1} << 63); }
+
+double real(std::int64_t key, std::uint64_t) { return double(key) / 8; }
 
 dheap_entry entry(std::int64_t key, std::uint64_t value) { return dheap_entry{key, value}; }
+
+dheap_sequenced sequenced(std::int64_t key, std::uint64_t value) { return dheap_sequenced{key, value, value}; }
+
+const auto less = [](auto a, auto b) { return a < b; };
+const auto greater = [](auto a, auto b) { return b < a; };
+const auto less_key = [](const dheap_entry &a, const dheap_entry &b) { return a.key < b.key; };
+const auto greater_key = [](const dheap_entry &a, const dheap_entry &b) { return a.key > b.key; };
+const auto max_turn = [](const dheap_sequenced &a, const dheap_sequenced &b) {
+    return a.key < b.key || (a.key == b.key && a.sequence > b.sequence);
+};
+const auto min_turn = [](const dheap_sequenced &a, const dheap_sequenced &b) {
+    return a.key > b.key || (a.key == b.key && a.sequence > b.sequence);
+};
+
+#define KIND(order, kind, type, item, less)                                                                            \
+    Kind<type, decltype(less)> {                                                                                       \
+        #order "_" #kind, dheap_##order##_make_##kind, dheap_##order##_push_##kind, dheap_##order##_pop_##kind,        \
+            dheap_##order##_replace_##kind, dheap_##order##_sort_heap_##kind, dheap_##order##_sort_##kind,             \
+            dheap_##order##_fix_##kind, dheap_##order##_remove_##kind, dheap_##order##_mend_##kind,                    \
+            dheap_##order##_is_heap_##kind, item, less                                                                 \
+    }
 
 } // namespace
 
 int main() {
-    const auto less = [](std::int64_t a, std::int64_t b) { return a < b; };
-    const auto greater = [](std::int64_t a, std::int64_t b) { return a > b; };
-    const auto less_key = [](const dheap_entry &a, const dheap_entry &b) { return a.key < b.key; };
-    const auto greater_key = [](const dheap_entry &a, const dheap_entry &b) { return a.key > b.key; };
-    const Kind<std::int64_t, decltype(less)> i64{
-        "i64", dheap_make_i64, dheap_push_i64, dheap_pop_i64, dheap_replace_i64, dheap_sort_i64,
-        dheap_is_heap_i64, number, less};
-    const Kind<std::int64_t, decltype(greater)> least_i64{
-        "least_i64", dheap_make_least_i64, dheap_push_least_i64, dheap_pop_least_i64,
-        dheap_replace_least_i64, dheap_sort_least_i64, dheap_is_heap_least_i64, number, greater};
-    const Kind<dheap_entry, decltype(less_key)> entries{
-        "entries", dheap_make_entries, dheap_push_entries, dheap_pop_entries, dheap_replace_entries,
-        dheap_sort_entries, dheap_is_heap_entries, entry, less_key};
-    const Kind<dheap_entry, decltype(greater_key)> least_entries{
-        "least_entries", dheap_make_least_entries, dheap_push_least_entries, dheap_pop_least_entries,
-        dheap_replace_least_entries, dheap_sort_least_entries, dheap_is_heap_least_entries, entry,
-        greater_key};
-
     std::mt19937_64 random(1);
-    for (std::size_t len = 0; len <= 300; len++) {
+    for (std::size_t len = 0; len <= 300; len += len < 40 ? 1 : 13) {
         for (std::int64_t most : {std::int64_t{2}, std::int64_t{1000000}}) {
-            beside(i64, len, most, random);
-            beside(least_i64, len, most, random);
-            beside(entries, len, most, random);
-            beside(least_entries, len, most, random);
+            beside(KIND(max, i64, std::int64_t, i64, less), len, most, random);
+            beside(KIND(min, i64, std::int64_t, i64, greater), len, most, random);
+            beside(KIND(max, u64, std::uint64_t, u64, less), len, most, random);
+            beside(KIND(min, u64, std::uint64_t, u64, greater), len, most, random);
+            beside(KIND(max, double, double, real, less), len, most, random);
+            beside(KIND(min, double, double, real, greater), len, most, random);
+            beside(KIND(max, entry, dheap_entry, entry, less_key), len, most, random);
+            beside(KIND(min, entry, dheap_entry, entry, greater_key), len, most, random);
+            beside(KIND(max, sequenced, dheap_sequenced, sequenced, max_turn), len, most, random);
+            beside(KIND(min, sequenced, dheap_sequenced, sequenced, min_turn), len, most, random);
         }
     }
     std::printf("dary_heap_c: %d of %d answers beside C++ are wrong\n", wrong, checks);

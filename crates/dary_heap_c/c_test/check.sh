@@ -1,71 +1,161 @@
 #!/usr/bin/env bash
-# Builds the static library, and then compiles and runs what is written in C and C++ over it: answers.c, the
-# two programs of ../examples, and beside.cpp. It prints a line for each of these, one more for each wrong
-# answer, and at last how many of the answers are wrong. Its status is 0 if none is, and also if there is no C
-# compiler, which the line says. Without a C++ compiler beside.cpp is left out, which a line says too.
+# Builds the static library, installs it into an empty folder, and then compiles and runs what is written in C and C++
+# over it: answers.c, beside.cpp, the programs of ../examples and that of ../README.md. answers.c is run over what the
+# toolchain's other backend builds too. It prints a line for each of these, one more for each wrong answer, and at last
+# how many of the answers are wrong. Its status is 0 if none is.
 #
-# It needs the command `rt`, and passes its words on to `rt lib`. CC and CXX name the compilers.
+# It needs the command `rt`, and passes its words on to `rt lib`. CC and CXX name the compilers, with words behind if you
+# like. If CC isn't set and there is no `cc` nothing is compiled, which the last line says, and the status is 0. If CXX
+# isn't set and there is no `c++` the programs in C++ are left out.
 set -euo pipefail
 cd -- "$(dirname -- "$(readlink -f -- "${BASH_SOURCE[0]}")")"
 
-compiler=${CC:-cc}
-if ! command -v "$compiler" > /dev/null; then
-    printf 'dary_heap_c: there is no C compiler %s, so nothing was compiled\n' "$compiler"
+say() {
+    printf 'dary_heap_c: %s\n' "$1"
+}
+
+fail() {
+    say "$1"
+    exit 1
+}
+
+read -ra compiler <<< "${CC-cc}"
+read -ra cpp <<< "${CXX-c++}"
+if [[ ! -v CC ]] && ! command -v cc > /dev/null; then
+    say 'there is no C compiler cc, so nothing was compiled'
     exit 0
 fi
+command -v "${compiler[0]-}" > /dev/null || fail "CC is '${CC-}', which isn't found"
+if [[ -v CXX ]]; then
+    command -v "${cpp[0]-}" > /dev/null || fail "CXX is '$CXX', which isn't found"
+fi
+command -v nm > /dev/null || fail 'there is no nm'
 
 room=$(mktemp -d)
 trap 'rm -rf -- "$room"' EXIT
 
-(cd .. && rt lib "$@" > "$room/log" 2>&1) || {
-    tail -n 20 -- "$room/log" >&2
-    printf 'dary_heap_c: rt lib failed\n'
-    exit 1
-}
-library=../out/libdary_heap_c.a
-strict=(-Wall -Wextra -Werror -O2 -I ..)
-
-fail() {
-    printf 'dary_heap_c: %s\n' "$1"
-    exit 1
+build() {
+    (cd .. && rt lib "$@" > "$room/log" 2>&1) || {
+        tail -n 20 -- "$room/log" >&2
+        fail "rt lib $* failed"
+    }
 }
 
+# The other backend's library is kept apart: out/ has the one to be installed.
+build --backend rattle "$@"
+cp -- ../out/libdary_heap_c.a "$room/other.a"
+stack=$(grep -o 'stack-bytes=[0-9]*' "$room/log") || fail 'the other backend says nothing of the stack'
+build "$@"
+make -s -C .. install "PREFIX=$room/installed" || fail 'make install failed'
+library=$room/installed/lib/libdary_heap_c.a
+header=$room/installed/include/dary_heap_c.h
+
+# The exported symbols are the functions of the header, and nothing from outside is called.
+grep -oE '\bdheap_(max|min)_\w+\(' "$header" | tr -d '(' | sort > "$room/declared"
+for it in "$library" "$room/other.a"; do
+    nm -g --defined-only "$it" | awk 'NF == 3 { print $3 }' | sort > "$room/exported"
+    diff -- "$room/declared" "$room/exported" || fail "the symbols of ${it##*/} aren't the functions of the header"
+    [[ -z "$(nm -g --undefined-only "$it" | awk 'NF == 2')" ]] || fail "${it##*/} calls a function from outside"
+    [[ -z "$(nm "$it" | awk '$2 ~ /^[BbCcDd]$/')" ]] || fail "${it##*/} has a variable"
+done
+say "the library exports the $(wc -l < "$room/declared") functions of the header alone, and calls none from outside"
+
+if command -v pkg-config > /dev/null; then
+    export PKG_CONFIG_PATH=$room/installed/lib/pkgconfig
+    read -ra flags <<< "$(pkg-config --cflags --libs dary_heap)"
+    version=$(pkg-config --modversion dary_heap)
+    number=$(sed -nE 's/^#define DARY_HEAP_VERSION_(MAJOR|MINOR|PATCH) //p' "$header" | paste -sd .)
+    [[ "$version" == "$number" ]] || fail "dary_heap.pc has the version $version, and the header $number"
+else
+    say "there is no pkg-config, so dary_heap.pc wasn't tried"
+    flags=(-I "$room/installed/include" -L "$room/installed/lib" -ldary_heap_c)
+fi
+
+strict=(-Wall -Wextra -Wpedantic -Werror -O2)
+
+# Older and newer languages read the header too.
+for it in c99 c17 c++11 c++20; do
+    case $it in
+        c++*) ! command -v "${cpp[0]}" > /dev/null || "${cpp[@]}" "-std=$it" "${strict[@]}" -fsyntax-only -x c++ "$header" ;;
+        *) "${compiler[@]}" "-std=$it" "${strict[@]}" -fsyntax-only -x c "$header" ;;
+    esac || fail "the header isn't read as $it"
+done
+
+# Compiles a source in C or C++ against the installed library, with more words behind.
 compile() {
-    "$compiler" -std=c11 -Wpedantic "${strict[@]}" -o "$room/$1" "$2" "$library" ||
-        fail "$2 isn't compiled"
+    local to=$room/$1 from=$2
+    shift 2
+    case $from in
+        *.cpp) "${cpp[@]}" -std=c++17 "${strict[@]}" -o "$to" "$from" "${flags[@]}" "$@" ;;
+        *) "${compiler[@]}" -std=c11 "${strict[@]}" -o "$to" "$from" "${flags[@]}" -lm "$@" ;;
+    esac || fail "$from isn't compiled"
 }
 
-compile answers answers.c
-compile timers ../examples/timers.c
-compile greatest ../examples/greatest.c
+# Compiles a program, and compares what it prints.
+shows() {
+    local source=$1 wanted=$2
+    shift 2
+    compile program "$source" "$@"
+    [[ "$("$room/program")" == "$wanted" ]] || fail "$source prints something else"
+}
+
+has_cpp=false
+! command -v "${cpp[0]}" > /dev/null || has_cpp=true
+$has_cpp || say "there is no C++ compiler c++, so the programs in C++ are left out"
 
 due='30: timer 1, due at 20
-30: timer 3, due at 25
 60: timer 0, due at 50
+60: timer 2, due at 55
+60: timer 5, due at 60
 90: timer 4, due at 70
-90: timer 2, due at 90
 120: timer 4, due at 110'
-[[ "$("$room/timers")" == "$due" ]] || fail 'examples/timers.c prints something else'
-printf 'dary_heap_c: examples/timers.c prints what it should\n'
+turns=$'at 5\nfirst at 20\nsecond at 20\nthird at 20'
 
-# What the program prints for these words.
-greatest() {
-    local printed
-    printed=$(printf '%s\n' "$@" | "$room/greatest") || fail "examples/greatest.c fails for $*"
-    printf '%s' "${printed//$'\n'/ }"
+# Each program of the examples and of README.md, compiled with these words.
+show_all() {
+    local input printed
+    shows ../examples/timers.c "$due" "$@"
+    shows ../examples/by_age.c $'Ada, 36\nAlan, 41\nEdsger, 72\nGrace, 85' "$@"
+    shows "$room/readme.c" 9 "$@"
+    ! $has_cpp || shows ../examples/timers.cpp "$turns" "$@"
+    compile greatest ../examples/greatest.c "$@"
+    for input in '5 -1 12 7 7 3 12 0=12 12 7' '4 -9=4 -9' '='; do
+        printed=$(printf '%s\n' "${input%=*}" | "$room/greatest") || fail "greatest.c fails for ${input%=*}"
+        [[ "${printed//$'\n'/ }" == "${input#*=}" ]] || fail "greatest.c prints other numbers for ${input%=*}"
+    done
+    ! printf '5 x\n' | "$room/greatest" > "$room/printed" 2>&1 || fail 'greatest.c takes a word for a number'
 }
-[[ "$(greatest 5 -1 12 7 7 3 12 0)" == '12 12 7' ]] || fail 'examples/greatest.c prints other numbers'
-[[ "$(greatest 4 -9)" == '4 -9' ]] || fail 'examples/greatest.c prints other numbers where there are few'
-[[ "$(greatest '')" == '' ]] || fail 'examples/greatest.c prints something where there is no number'
-! printf '5 x\n' | "$room/greatest" > "$room/printed" 2>&1 || fail 'examples/greatest.c takes a word for a number'
-printf 'dary_heap_c: examples/greatest.c prints what it should\n'
 
-cpp=${CXX:-c++}
-if command -v "$cpp" > /dev/null; then
-    "$cpp" -std=c++17 -Wpedantic "${strict[@]}" -o "$room/beside" beside.cpp "$library" ||
-        fail "beside.cpp isn't compiled"
-    "$room/beside" || fail 'beside.cpp found wrong answers'
-else
-    printf 'dary_heap_c: there is no C++ compiler %s, so beside.cpp was left out\n' "$cpp"
+awk '/^```c$/ { on = 1; next } /^```$/ { on = 0 } on' ../README.md > "$room/readme.c"
+show_all
+say 'the examples and the program of README.md print what they should'
+
+compile answers answers.c
+"${compiler[@]}" -std=c11 "${strict[@]}" -I "$room/installed/include" -o "$room/other" answers.c "$room/other.a" -lm
+"$room/other" | sed 's/$/, as the other backend builds the library/' || fail 'the other backend builds it wrongly'
+say "by that backend a call takes at most ${stack#*=} bytes of stack"
+
+if "${compiler[@]}" -dM -E -x c /dev/null | grep -q __GNUC__; then
+    ! "${compiler[@]}" -std=c11 -Werror -c -o "$room/ignored.o" must_use.c "${flags[@]}" > "$room/printed" 2>&1 ||
+        fail 'a program that ignores a result is compiled without a warning'
 fi
+
+if $has_cpp; then
+    compile beside beside.cpp
+    "$room/beside" || fail 'beside.cpp found wrong answers'
+fi
+
+sanitizers=(-fsanitize=address,undefined -fno-sanitize-recover=all -g)
+if printf 'int main(void) { return 0; }\n' | "${compiler[@]}" "${sanitizers[@]}" -x c -o "$room/plain" - 2> "$room/printed" && "$room/plain"; then
+    show_all "${sanitizers[@]}"
+    compile answers_checked answers.c "${sanitizers[@]}"
+    "$room/answers_checked" short | sed 's/$/, with the sanitizers/' || fail 'a sanitizer found a fault'
+    if $has_cpp; then
+        compile beside_checked beside.cpp "${sanitizers[@]}"
+        "$room/beside_checked" | sed 's/$/, with the sanitizers/' || fail 'a sanitizer found a fault'
+    fi
+else
+    say 'the C compiler has no address and undefined-behaviour sanitizers, so they were left out'
+fi
+
 "$room/answers"

@@ -1,9 +1,9 @@
-// Times pushes and pops of numbers beside std::push_heap and std::pop_heap. times.sh builds and runs it.
+// Times the calls on numbers beside those of C++. times.sh builds and runs it.
 //
 // At each length an empty array gets so many random numbers, a push each, and then they are popped until none is
 // left. A line has the nanoseconds of a push and of a pop, the least of several rounds, in which all take
 // turns. Below 64,000 numbers a round goes through several arrays, so that none is met again at once. After each
-// round the array has to be sorted.
+// round the array has to be sorted. Then it times ways to replace the first number of a heap.
 #include "dary_heap_c.h"
 
 #include <algorithm>
@@ -22,13 +22,18 @@ using Numbers = std::vector<std::int64_t>;
 // Who works: std at 0, and else the library at this arity.
 constexpr std::size_t WORKERS = 9;
 
+void done(bool is_done) {
+    if (!is_done)
+        std::abort();
+}
+
 void push_all(std::size_t who, Numbers &out, const Numbers &given) {
     for (std::size_t n = 1; n <= given.size(); n++) {
         out[n - 1] = given[n - 1];
         if (who == 0)
             std::push_heap(out.begin(), out.begin() + n);
         else
-            dheap_push_i64(who, out.data(), n);
+            done(dheap_max_push_i64(out.data(), n, who));
     }
 }
 
@@ -37,7 +42,7 @@ void pop_all(std::size_t who, Numbers &out) {
         if (who == 0)
             std::pop_heap(out.begin(), out.begin() + n);
         else
-            dheap_pop_i64(who, out.data(), n);
+            done(dheap_max_pop_i64(out.data(), n, who));
     }
 }
 
@@ -77,7 +82,7 @@ void round(std::size_t who, const std::vector<Numbers> &arrays, Times &times) {
         if (who == 0)
             std::make_heap(out.begin(), out.end());
         else
-            dheap_make_i64(who, out.data(), out.size());
+            done(dheap_max_make_i64(out.data(), out.size(), who));
     }
     times.make = std::min(times.make, since(begun, items));
     begun = Clock::now();
@@ -85,7 +90,7 @@ void round(std::size_t who, const std::vector<Numbers> &arrays, Times &times) {
         if (who == 0)
             std::sort_heap(out.begin(), out.end());
         else
-            dheap_sort_i64(who, out.data(), out.size());
+            done(dheap_max_sort_heap_i64(out.data(), out.size(), who));
     }
     times.sort = std::min(times.sort, since(begun, items));
     for (const Numbers &out : outs)
@@ -116,6 +121,41 @@ void line(std::size_t len, std::size_t rounds) {
     std::fflush(stdout);
 }
 
+// Replaces the first number of a heap of so many, by a random lesser one or by one that is a little less, in three
+// ways.
+void replaces(std::size_t len, std::size_t arity, bool a_little_less) {
+    std::mt19937_64 random(len);
+    Numbers given(len);
+    for (std::int64_t &number : given)
+        number = std::int64_t(random() >> 14);
+    done(dheap_max_make_i64(given.data(), len, arity));
+    const char *const names[] = {"replace", "fix at 0", "pop, push"};
+    double least[] = {1e30, 1e30, 1e30};
+    for (int round = 0; round < 5; round++)
+        for (int way = 0; way < 3; way++) {
+            Numbers heap = given;
+            const std::size_t times = 300000;
+            const auto begun = Clock::now();
+            for (std::size_t i = 0; i < times; i++) {
+                const std::int64_t first = heap[0];
+                const std::int64_t next = first - std::int64_t(random() >> (a_little_less ? 40 : 14));
+                if (way == 2) {
+                    done(dheap_max_pop_i64(heap.data(), len, arity));
+                    heap[len - 1] = next;
+                    done(dheap_max_push_i64(heap.data(), len, arity));
+                } else {
+                    heap[0] = next;
+                    done(way == 0 ? dheap_max_replace_i64(heap.data(), len, arity)
+                                  : dheap_max_fix_i64(heap.data(), len, arity, 0));
+                }
+            }
+            least[way] = std::min(least[way], since(begun, times));
+        }
+    for (int way = 0; way < 3; way++)
+        std::printf("%9zu  %-7zu  %-13s  %-10s %8.2f\n", len, arity, a_little_less ? "a little less" : "random", names[way], least[way]);
+    std::fflush(stdout);
+}
+
 } // namespace
 
 int main(int words, char **word) {
@@ -123,4 +163,9 @@ int main(int words, char **word) {
     std::printf("%9s  %-7s %8s %8s %8s %8s\n", "numbers", "arity", "make", "push", "pop", "sort");
     for (std::size_t len = 1000; len <= most; len *= 10)
         line(len, len <= 100000 ? 25 : len <= 1000000 ? 5 : 3);
+    std::printf("\n%9s  %-7s  %-13s  %-10s %8s\n", "numbers", "arity", "new", "way", "ns");
+    for (std::size_t len : {std::size_t{1} << 10, std::size_t{1} << 20})
+        for (std::size_t arity : {2, 4, 8})
+            for (bool a_little_less : {false, true})
+                replaces(len, arity, a_little_less);
 }

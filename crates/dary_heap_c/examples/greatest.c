@@ -1,15 +1,20 @@
 /* Prints the greatest K numbers of standard input, the greatest first, in memory for K numbers.
  *
- * They are a heap with the least first. A number that is greater than the least of them takes its place,
- * and `replace` repairs the heap: so each number of the input costs at most ARITY comparisons a level of
- * a heap of K numbers. */
-#include "dary_heap_c.h"
+ * They are a min-heap. A number that is greater than the least of them takes its place, and `replace` repairs
+ * the heap. */
+#include <dary_heap_c.h>
 
 #include <inttypes.h>
 #include <stdio.h>
+#include <stdlib.h>
 
 #define ARITY 4
 #define K 3
+
+static void must(bool done) {
+    if (!done)
+        abort();
+}
 
 int main(void) {
     int64_t greatest[K];
@@ -18,18 +23,18 @@ int main(void) {
     while (scanf("%" SCNd64, &number) == 1) {
         if (len < K) {
             greatest[len++] = number;
-            dheap_push_least_i64(ARITY, greatest, len);
+            must(dheap_min_push_i64(greatest, len, ARITY));
         } else if (greatest[0] < number) {
             greatest[0] = number;
-            dheap_replace_least_i64(ARITY, greatest, len);
+            must(dheap_min_replace_i64(greatest, len, ARITY));
         }
     }
     if (!feof(stdin)) {
         fputs("this is no number\n", stderr);
         return 1;
     }
-    /* A heap with the least first is sorted in descending order. */
-    dheap_sort_least_i64(ARITY, greatest, len);
+    /* A min-heap is sorted in descending order. */
+    must(dheap_min_sort_heap_i64(greatest, len, ARITY));
     for (size_t i = 0; i < len; i++)
         printf("%" PRId64 "\n", greatest[i]);
     return 0;

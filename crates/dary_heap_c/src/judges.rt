@@ -2,10 +2,12 @@
 ghost use Rattle.std.specs.Cmp.{back_total};
 ghost use Rattle.std.specs.Ordering.{flip_args};
 ghost use Rattle.std.specs.Prelude.{◌≡◌};
-ghost use Rattle.dary_heap_c.specs.Keys.{by_key, by_key-total};
+ghost use Rattle.dary_heap_c.specs.Keys.{by_key, by_key-total, key_then_earlier, key_then_earlier-total, key_then_later, key_then_later-total, total_order, total_order-total, total_order_key};
 
-use crate::entries::Entry;
+use crate::entry::Entry;
+use crate::sequenced::Sequenced;
 use dary_heap::sift::{ByOrd, Judge};
+use std::cmp::Reverse;
 
 /// Judges entries by their keys alone, and the keys as numbers.
 #[derive(Drop)]
@@ -31,6 +33,102 @@ impl Judge<Entry> for ByKey {
 
     fn at_most(&mut self, a: &Entry, b: &Entry) -> bool {
         self.keys.at_most(&a.key, &b.key)
+    }
+}
+
+/// Judges by the keys, and of equal keys the one with the lesser sequence number is the greater.
+#[derive(Drop)]
+pub(crate) struct ByEarlier {
+    keys: ByOrd,
+}
+
+impl ByEarlier {
+    /// A judge that made no comparison yet.
+    pub(crate) fn new() -> ByEarlier
+        ensures { result.keys ≡ 0 }
+    {
+        ByEarlier { keys: ByOrd::new() }
+    }
+}
+
+impl Judge<Sequenced> for ByEarlier {
+    ghost order = { key_then_earlier };
+
+    ghost count = { λ judge. judge.keys };
+
+    ghost total = { key_then_earlier-total };
+
+    fn at_most(&mut self, a: &Sequenced, b: &Sequenced) -> bool {
+        let (a, b) = ((a.key, Reverse(a.sequence)), (b.key, Reverse(b.sequence)));
+        self.keys.at_most(&a, &b)
+    }
+}
+
+/// Judges by the keys, and of equal keys the one with the greater sequence number is the greater.
+#[derive(Drop)]
+pub(crate) struct ByLater {
+    keys: ByOrd,
+}
+
+impl ByLater {
+    /// A judge that made no comparison yet.
+    pub(crate) fn new() -> ByLater
+        ensures { result.keys ≡ 0 }
+    {
+        ByLater { keys: ByOrd::new() }
+    }
+}
+
+impl Judge<Sequenced> for ByLater {
+    ghost order = { key_then_later };
+
+    ghost count = { λ judge. judge.keys };
+
+    ghost total = { key_then_later-total };
+
+    fn at_most(&mut self, a: &Sequenced, b: &Sequenced) -> bool {
+        let (a, b) = ((a.key, a.sequence), (b.key, b.sequence));
+        self.keys.at_most(&a, &b)
+    }
+}
+
+/// Judges the bits of doubles by the total order of IEEE 754.
+#[derive(Drop)]
+pub(crate) struct ByBits {
+    keys: ByOrd,
+}
+
+impl ByBits {
+    /// A judge that made no comparison yet.
+    pub(crate) fn new() -> ByBits
+        ensures { result.keys ≡ 0 }
+    {
+        ByBits { keys: ByOrd::new() }
+    }
+}
+
+/// The place of a double in the total order.
+#[inline(always)]
+fn key_of(bits: u64) -> i64
+    ensures { result ≡ total_order_key bits }
+{
+    const SIGN: u64 = 1 << 63;
+    if bits < SIGN {
+        bits as i64
+    } else {
+        -1 - (bits - SIGN) as i64
+    }
+}
+
+impl Judge<u64> for ByBits {
+    ghost order = { total_order };
+
+    ghost count = { λ judge. judge.keys };
+
+    ghost total = { total_order-total };
+
+    fn at_most(&mut self, a: &u64, b: &u64) -> bool {
+        self.keys.at_most(&key_of(*a), &key_of(*b))
     }
 }
 

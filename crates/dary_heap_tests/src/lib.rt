@@ -1,6 +1,6 @@
 //! Callers that are proved, since their proofs show that the contracts of the priority queue serve a caller:
-//! of each function that has a precondition one call at a concrete type (`preconditions`, `uses`), and a judge
-//! of the caller's own (`judges`).
+//! calls of functions that have a precondition, at concrete types (`preconditions`, `uses`), and a judge of the
+//! caller's own (`judges`).
 //!
 //! All other tests are run and not proved, and stand in the folder `trials`: of them a proof says only that
 //! they are safe.

@@ -1,9 +1,11 @@
-//! Calls of the public functions that have a precondition, at concrete types. That of `shortest_path` is in
+//! Calls of public functions that have a precondition, at concrete types. That of `shortest_path` is in
 //! `roads` of `dary_heap_uses`.
 use dary_heap::run::{Command, Reply, run};
-use dary_heap::sift::{Tally, mend_with, replace_first_with};
+use dary_heap::sift::{Tally, fix_with, mend_with, remove_with, replace_first_with};
 use dary_heap::{BinaryHeap, OctonaryHeap, TernaryHeap};
+use dary_heap_uses::greatest::greatest;
 use std::alloc::Global;
+use std::cmp::Reverse;
 use std::process::Abort;
 use std::test::Fail;
 
@@ -177,6 +179,48 @@ fn the_first_item_is_replaced(rt: HostRuntime) -> Result<(), Fail> {
         assert_eq!(rt; first, 5);
         assert_eq!(rt; items, after, "{item}");
         assert_eq!(rt; judge.made(), made, "{item}");
+    }
+    Ok(())
+}
+
+// The place is below the length.
+#[test]
+fn an_item_is_changed_and_moved_to_the_end(rt: HostRuntime) -> Result<(), Fail> {
+    let mut items = [9, 5, 7, 1, 2];
+    let mut judge = Tally::new();
+    items[1] = 0;
+    fix_with::<i32, Tally, 2>(&mut items, 1, &mut judge);
+    assert_eq!(rt; items, [9, 2, 7, 1, 0]);
+    assert_eq!(rt; judge.made(), 3);
+    remove_with::<i32, Tally, 2>(&mut items, 0, &mut judge);
+    assert_eq!(rt; items, [7, 2, 0, 1, 9]);
+    assert_eq!(rt; judge.made(), 5);
+    Ok(())
+}
+
+// A clone of a number is the same number.
+#[test]
+fn a_clone_of_an_iterator_gives_the_same_items(rt: HostRuntime) -> Result<(), Fail> {
+    let heap = BinaryHeap::from([1, 2, 3].to_vec(rt.alloc())?);
+    let mut sorted = heap.clone()?.into_iter_sorted();
+    let mut copy = sorted.clone()?;
+    assert_eq!(rt; sorted.next(), Some(3));
+    assert_eq!(rt; copy.next(), Some(3));
+    let mut items = heap.into_iter();
+    assert_eq!(rt; items.next(), Some(3));
+    let mut copy = items.clone()?;
+    assert_eq!(rt; items.next(), Some(2));
+    assert_eq!(rt; copy.next(), Some(2));
+    Ok(())
+}
+
+// The iterator of a vector ends.
+#[test]
+fn the_two_greatest_of_a_stream_are_kept(rt: HostRuntime) -> Result<(), Fail> {
+    let stream = [4, 9, 1, 7].to_vec(rt.alloc())?;
+    let mut kept = greatest::<i32, Vec<i32>, 3>(rt.alloc(), stream, 2)?;
+    for answer in [Some(Reverse(7)), Some(Reverse(9)), None] {
+        assert!(rt; kept.pop() == answer);
     }
     Ok(())
 }

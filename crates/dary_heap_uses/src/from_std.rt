@@ -35,9 +35,10 @@ pub fn lead(prices: &mut BinaryHeap<u32>) -> Option<u32>
     Some(first - second)
 }
 
-/// Takes the highest price out if it is at least the bound. No price that stays is higher.
+/// Takes the highest price out if it is at least the bound. No price was higher, and none that stays is.
 pub fn highest_from(prices: &mut BinaryHeap<u32>, bound: u32) -> Option<u32>
-    ensures { IfSome result (λ price. All (λ other. other ≤ price) prices.new.items) }
+    ensures above_all { IfSome result (λ price. All (λ other. other ≤ price) prices.old.items) }
+    ensures below { IfSome result (λ price. All (λ other. other ≤ price) prices.new.items) }
 {
     prices.pop_if(|price| bound <= *price)
 }

@@ -37,7 +37,7 @@ impl Count {
 /// What compares items: it has an order on them, and a count of the comparisons that it made.
 ///
 /// The order is one for the type, total and transitive. The count is each value's own. Only clauses
-/// read the two. `crates/dary_heap_tests/src/judges.rt` has a judge of a caller's own.
+/// read the two. A caller may write a judge of its own.
 ///
 /// # Examples
 ///
