@@ -1,9 +1,9 @@
 -- The laws that proofs of callers need, found by `rt lemma`: what a list holds, bags, greatest items, pops in a row, heaps of `Reverse`, and comparisons.
-use Rattle.std.proofs.Common.{◌≡◌, ◌≢◌, ◌⊎◌, ℕ, ℤ, ◌+◌, ◌<◌, ◌≤◌, ◌≤ℤ◌, ◌<ℤ◌, min, Bool, true, false, if◌then◌else◌, List, [], ◌∷◌, ◌++◌, length, map, slice_set, All, Contains, Option, Some, None, Result, Ok, Err, Vec, IfOk, arith, refl, sym, ap, ◌∙◌, subst, inl, inr, length-append}
+use Rattle.std.proofs.Common.{◌≡◌, ◌≢◌, ◌⊎◌, ℕ, ◌+◌, ◌<◌, ◌≤◌, min, Bool, true, false, if◌then◌else◌, List, [], ◌∷◌, ◌++◌, length, map, slice_set, All, Contains, Option, Some, None, Result, Ok, Err, Vec, IfOk, arith, refl, sym, ap, ◌∙◌, subst, inl, inr, length-append}
 use Rattle.std.specs.Cmp.{IsTotalOrder}
 use Rattle.std.specs.Iterator.{Yields}
 use Rattle.std.specs.Iterator.Adapters.{take_count, take_source, take_steps}
-use Rattle.std.specs.Ordering.{nat_cmp, int_cmp, is_lt, is_le, is_gt, is_ge, is_some_and, ordering_reverse, ordering_then}
+use Rattle.std.specs.Ordering.{nat_cmp, is_lt, is_some_and, ordering_reverse, ordering_then}
 use Rattle.std.specs.declared.alloc.AllocError.{AllocError}
 use Rattle.std.specs.declared.alloc.Global.{Global}
 use Rattle.std.specs.declared.cmp.Ordering.{Ordering}
@@ -11,8 +11,7 @@ use Rattle.std.specs.declared.cmp.Ordering.TheVariants.{Less, Equal, Greater}
 use Rattle.std.specs.declared.cmp.Reverse.{Reverse}
 use Rattle.std.specs.declared.iter.Take.{Take}
 use Rattle.std.proofs.lemmas.Bool.{cases_lt}
-use Rattle.std.proofs.lemmas.Cmp.{ranked, int_ranked, by_ranked}
-use Rattle.std.proofs.lemmas.Int.{ints}
+use Rattle.std.proofs.lemmas.Cmp.{ranked, by_ranked}
 use Rattle.std.proofs.lemmas.Iterator.{IsCollectResult}
 use Rattle.std.proofs.lemmas.List.Elements.{All-cons, All-contains, All-contains_itself, All-map, All-tail, All-weaker, Contains-append_cases}
 use Rattle.std.proofs.lemmas.List.Sorted.{All-permutation, length_permutation, IsPermutation-refl, IsPermutation-sym, IsPermutation-trans, IsPermutation-cons, IsPermutation-middle, IsPermutation-map, IsPermutation-append_left, IsPermutation-append_right, IsPermutation-pop_more}
@@ -21,17 +20,16 @@ use Rattle.dary_heap.specs.Contents.{Contents}
 use Rattle.dary_heap.specs.Popping.{IsPop, IsDescending, IsGivenDescending}
 use Rattle.dary_heap.specs.State.{front}
 use Rattle.dary_heap.proofs.Fronts.{alone}
-use Rattle.dary_heap.proofs.Order.{less, not_greater}
-use Rattle.dary_heap.proofs.Popping.{pops_give}
+use Rattle.dary_heap.proofs.iter.Popping.{pops_give}
 pub use Rattle.dary_heap.proofs.Bags.{Contains-cases, Contains-first, Contains-later, holds_none, has_none, came_first, came_later, came_cases}
 pub use Rattle.dary_heap.proofs.Bounded.{upper_bound, upper_bound_left}
 pub use Rattle.dary_heap.proofs.Callable.{takes_in_turn, all_callable}
 pub use Rattle.dary_heap.proofs.Cancelling.{IsPermutation-uncons}
-pub use Rattle.dary_heap.proofs.Fixing.{ordered_but_at, overwritten}
+pub use Rattle.dary_heap.proofs.sift.Fixing.{ordered_but_at, overwritten}
 pub use Rattle.dary_heap.proofs.FromStd.{std_heap_from_ordered, ordered_from_std_heap, descending_at, extend_fits, on_ok_of}
-pub use Rattle.dary_heap.proofs.Lowering.{sum_falls}
+pub use Rattle.dary_heap.proofs.peek_mut.Lowering.{sum_falls}
 pub use Rattle.dary_heap.proofs.Order.{not_greater-self, not_greater-trans}
-pub use Rattle.dary_heap.proofs.Popping.{none_first, some_first, pops_list, pops_descend, pops_counted}
+pub use Rattle.dary_heap.proofs.iter.Popping.{none_first, pops_list, pops_descend}
 
 -- ---- what a list holds
 
@@ -82,24 +80,7 @@ module _ {X : Type 0} {cmp : X → X → Ordering} where
     ];
   }
 
-  -- what a pop leaves exceeds nothing that it took
-  pub IsGreatest-left : (items rest : List X) (m : X) → IsGreatest cmp items m → IsSameBag items (m ∷ rest) → (y : X) → Contains rest y → cmp y m ≢ Greater
-  IsGreatest-left items rest m h bag y in' = h.none_above y (came_later m rest items y (IsPermutation-sym items (m ∷ rest) bag) in')
-
-  -- no item has a greater key than the greatest
-  pub IsGreatest-key : (key : X → ℕ) (by_key : (x y : X) → cmp x y ≢ Greater → key x ≤ key y) (items : List X) (m : X) → IsGreatest cmp items m → All (λ y. key y ≤ key m) items
-  IsGreatest-key key by_key items m h = All-weaker (Contains items) (λ (y : X). key y ≤ key m) (λ y there. by_key y m (h.none_above y there)) items (All-contains_itself items)
-
   module _ (total : IsTotalOrder cmp) where
-    pub IsGreatest-alone : (x : X) → IsGreatest cmp (x ∷ []) x
-    IsGreatest-alone x = record {
-      occurs = Contains-first x [];
-      none_above = λ y in'. elim (Contains-cases x [] y in') [
-        | inl same ↦ subst (λ (v : X). cmp v x ≢ Greater) same (not_greater-self total x)
-        | inr none ↦ absurd (holds_none y none)
-      ];
-    }
-
     -- an item that the greatest doesn't exceed is the greatest once it came
     pub IsGreatest-overtaken : (x m : X) (items : List X) → IsGreatest cmp items m → cmp m x ≢ Greater → IsGreatest cmp (x ∷ items) x
     IsGreatest-overtaken x m items h over = record {
@@ -246,26 +227,6 @@ lt_no Less h e = cc
 lt_no Equal h e = cc
 lt_no Greater h e = cc
 
-gt_yes : (r : Ordering) → is_gt r ≡ true → ordering_reverse r ≡ Less
-gt_yes Less h = cc
-gt_yes Equal h = cc
-gt_yes Greater h = refl
-
-gt_no : (r : Ordering) → is_gt r ≡ false → r ≢ Greater
-gt_no Less h e = cc
-gt_no Equal h e = cc
-gt_no Greater h e = cc
-
-ge_yes : (r : Ordering) → is_ge r ≡ true → ordering_reverse r ≢ Greater
-ge_yes Less h e = cc
-ge_yes Equal h e = cc
-ge_yes Greater h e = cc
-
-ge_no : (r : Ordering) → is_ge r ≡ false → r ≡ Less
-ge_no Less h = refl
-ge_no Equal h = cc
-ge_no Greater h = cc
-
 -- what is strictly less is not strictly greater
 pub not_greater-less : {X : Type 0} (cmp : X → X → Ordering) (x y : X) → cmp x y ≡ Less → cmp x y ≢ Greater
 not_greater-less cmp x y h e = cc
@@ -278,47 +239,14 @@ module _ {X : Type 0} {cmp : X → X → Ordering} {partial : X → X → Option
   pub cmp_from_lt : is_some_and is_lt (partial x y) ≡ true → cmp x y ≡ Less
   cmp_from_lt h = lt_yes (cmp x y) (tells is_lt true h)
 
-  pub cmp_from_le : is_some_and is_le (partial x y) ≡ true → cmp x y ≢ Greater
-  cmp_from_le h = not_greater (cmp x y) (tells is_le true h)
-
-  pub cmp_from_not_gt : is_some_and is_gt (partial x y) ≡ false → cmp x y ≢ Greater
-  cmp_from_not_gt h = gt_no (cmp x y) (tells is_gt false h)
-
-  pub cmp_from_not_ge : is_some_and is_ge (partial x y) ≡ false → cmp x y ≡ Less
-  cmp_from_not_ge h = ge_no (cmp x y) (tells is_ge false h)
-
   module _ (total : IsTotalOrder cmp) where
     pub cmp_from_not_lt : is_some_and is_lt (partial x y) ≡ false → cmp y x ≢ Greater
     cmp_from_not_lt h e = lt_no (cmp x y) (tells is_lt false h) (sym (total.antisymm y x) ∙ e)
-
-    pub cmp_from_not_le : is_some_and is_le (partial x y) ≡ false → cmp y x ≡ Less
-    cmp_from_not_le h = less total x y (tells is_le false h)
-
-    pub cmp_from_gt : is_some_and is_gt (partial x y) ≡ true → cmp y x ≡ Less
-    cmp_from_gt h = total.antisymm y x ∙ gt_yes (cmp x y) (tells is_gt true h)
-
-    pub cmp_from_ge : is_some_and is_ge (partial x y) ≡ true → cmp y x ≢ Greater
-    cmp_from_ge h e = ge_yes (cmp x y) (tells is_ge true h) (sym (total.antisymm y x) ∙ e)
 
 -- ---- from the order of numbers to theirs, and back
 
 pub nat_le_from_cmp : (a b : ℕ) → nat_cmp a b ≢ Greater → a ≤ b
 nat_le_from_cmp a b h = by_ranked (a < b) (a ≡ b) (b < a) (nat_cmp a b) (ranked a b (nat_cmp a b) refl) (λ is lower. omega arith) (λ is same. omega arith) (λ is greater. absurd (h is))
-
-pub nat_lt_from_cmp : (a b : ℕ) → nat_cmp a b ≡ Less → a < b
-nat_lt_from_cmp a b h = by_ranked (a < b) (a ≡ b) (b < a) (nat_cmp a b) (ranked a b (nat_cmp a b) refl) (λ is lower. lower) (λ is same. absurd (cc)) (λ is greater. absurd (cc))
-
-pub nat_cmp_from_le : (a b : ℕ) → a ≤ b → nat_cmp a b ≢ Greater
-nat_cmp_from_le a b h e = by_ranked (a < b) (a ≡ b) (b < a) (nat_cmp a b) (ranked a b (nat_cmp a b) refl) (λ is lower. cc) (λ is same. cc) (λ is greater. omega arith)
-
-pub int_le_from_cmp : (a b : ℤ) → int_cmp a b ≢ Greater → a ≤ℤ b
-int_le_from_cmp a b h = by_ranked (a <ℤ b) (a ≡ b) (b <ℤ a) (int_cmp a b) (int_ranked a b (int_cmp a b) refl) (λ is lower. omega (arith, ints)) (λ is same. subst (λ (v : ℤ). a ≤ℤ v) same (omega (arith, ints))) (λ is greater. absurd (h is))
-
-pub int_lt_from_cmp : (a b : ℤ) → int_cmp a b ≡ Less → a <ℤ b
-int_lt_from_cmp a b h = by_ranked (a <ℤ b) (a ≡ b) (b <ℤ a) (int_cmp a b) (int_ranked a b (int_cmp a b) refl) (λ is lower. lower) (λ is same. absurd (cc)) (λ is greater. absurd (cc))
-
-pub int_cmp_from_le : (a b : ℤ) → a ≤ℤ b → int_cmp a b ≢ Greater
-int_cmp_from_le a b h e = by_ranked (a <ℤ b) (a ≡ b) (b <ℤ a) (int_cmp a b) (int_ranked a b (int_cmp a b) refl) (λ is lower. cc) (λ is same. cc) (λ is greater. omega (arith, ints))
 
 -- numbers that are compared first, and whatever else if they are equal, as a derived `Ord` compares them
 pub nat_le_from_first : (a b : ℕ) (rest : Ordering) → ordering_then (nat_cmp a b) rest ≢ Greater → a ≤ b

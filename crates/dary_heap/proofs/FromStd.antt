@@ -1,5 +1,5 @@
 -- What proofs of callers of std's heap have, of this one: heap order at arity 2, places in descending order, room for what an iterator gives, and an outcome whose error was mapped.
-use Rattle.std.proofs.Common.{◌≡◌, ◌≢◌, ℕ, zero, suc, ◌+◌, ◌-◌, ◌*◌, ◌/◌, ◌<◌, ◌≤◌, true, false, List, [], ◌∷◌, length, get_or, slice_get, All, Contains, Option, Some, Result, Ok, Err, OnOk, is_ok, refl, sym, ap, ◌∙◌, subst, arith, length-append}
+use Rattle.std.proofs.Common.{◌≡◌, ◌≢◌, ℕ, zero, suc, ◌+◌, ◌≤◌, false, List, [], ◌∷◌, get_or, slice_get, Option, Some, Result, Ok, Err, OnOk, is_ok, sym, ap, ◌∙◌, subst, arith, length-append}
 use Rattle.std.proofs.lemmas.Iterator.Adapters.{YieldsAtMost}
 use Rattle.std.proofs.lemmas.Option.{get_or_from_slice_get, slice_get_within}
 use Rattle.std.specs.BinaryHeap.{IsHeap}
@@ -10,7 +10,6 @@ use Rattle.std.specs.declared.cmp.Ordering.TheVariants.{Less, Equal, Greater}
 use Rattle.dary_heap.specs.Extending.{IsRefusedAfter}
 use Rattle.dary_heap.specs.HeapOrder.{parent, IsHeapOrdered}
 use Rattle.dary_heap.specs.Popping.{IsDescending}
-use Rattle.dary_heap.proofs.Bags.{Contains-first, Contains-later}
 use Rattle.dary_heap.proofs.Bounded.{not_less}
 use Rattle.dary_heap.proofs.Order.{read, not_greater-self}
 

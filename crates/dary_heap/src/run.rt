@@ -202,7 +202,7 @@ pub fn run<T: Ord + Drop, const D: usize, P: FnMut(&T) -> bool>(
 /// command holds a predicate or a heap or drains in slice order, no two different values of the bag
 /// and the commands compare equal, and no memory allocation fails. Then the replies are equal, and
 /// so are the bags at the end. The machine knows no arity, so this holds of what [`run`] returns at
-/// any two. For a proof, the lemma `RunsUnrefused-from` of `proofs/SameReplies.antt` leads there
+/// any two. For a proof, the lemma `RunsUnrefused-from` of `proofs/run/SameReplies.antt` leads there
 /// from the clause `runs`.
 ///
 /// # Examples

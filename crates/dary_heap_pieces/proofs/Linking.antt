@@ -4,9 +4,8 @@ use Rattle.std.proofs.Math.Seq.{get_or-append_seam}
 use Rattle.std.proofs.lemmas.Bool.{cases_lt}
 use Rattle.std.proofs.lemmas.List.{get_or_append_left, length_push}
 use Rattle.std.proofs.lemmas.List.Elements.{filter_map-append}
-use Rattle.dary_heap_pieces.specs.Links.{gone, link, word_of, IsLive, IsLinked}
+use Rattle.dary_heap_pieces.specs.Links.{gone, link, word_of, IsLive}
 use Rattle.dary_heap_pieces.specs.declared.links.Link.{Link}
-use Rattle.dary_heap_pieces.proofs.Joining.{live_within}
 
 -- the links hold these pieces, each in its place
 pub record IsWhole (links : List Link) (pieces : List ℕ) : Type 0 where
@@ -15,15 +14,6 @@ pub record IsWhole (links : List Link) (pieces : List ℕ) : Type 0 where
   pub live : (p : ℕ) → p < length links → IsLive links p
   pub next : (p : ℕ) → p < length links → (link links p).next ≡ p + 1
   pub previous : (p : ℕ) → 0 < p → p < length links → (link links p).previous + 1 ≡ p
-
-pub IsWhole-none : (links : List Link) → links ≡ [] → IsWhole links []
-IsWhole-none links none = subst (λ (ls : List Link). IsWhole ls []) (sym none) (record {
-  word = refl;
-  many = refl;
-  live = λ p h. absurd (omega arith);
-  next = λ p h. absurd (omega arith);
-  previous = λ p above h. absurd (omega arith);
-})
 
 module _ (links : List Link) (pieces : List ℕ) (whole : IsWhole links pieces) (l : Link) (piece : ℕ) (is : l.piece ≡ Some piece) (next : l.next ≡ length links + 1) (previous : 0 < length links → l.previous + 1 ≡ length links) where
   abbrev more : List Link
@@ -45,16 +35,6 @@ module _ (links : List Link) (pieces : List ℕ) (whole : IsWhole links pieces) 
     next = at_cases (λ (p : ℕ) (x : Link). x.next ≡ p + 1) whole.next next;
     previous = λ p above h. at_cases (λ (q : ℕ) (x : Link). 0 < q → x.previous + 1 ≡ q) (λ q low up. whole.previous q up low) previous p h above;
   }
-
-pub IsLinked-whole : (links : List Link) (pieces : List ℕ) → IsWhole links pieces → IsLinked links
-IsLinked-whole links pieces whole = record {
-  forward = λ p live. omega (arith, whole.next p (live_within links p live));
-  none_between = λ p b live low high. absurd (omega (arith, low, high, whole.next p (live_within links p live)));
-  lands = λ p live within. whole.live (link links p).next within;
-  backward = λ p live above. omega (arith, whole.previous p above (live_within links p live));
-  lands_back = λ p live above. let within = live_within links p live in whole.live (link links p).previous (omega (arith, whole.previous p above within, within));
-  there_and_back = λ p live above. let within = live_within links p live in let back = whole.previous p above within in whole.next (link links p).previous (omega (arith, back, within)) ∙ back;
-}
 
 pub wrapped : (p : ℕ) → 0 < p → p < 2 ^ 64 → (p + 18446744073709551615) % 18446744073709551616 + 1 ≡ p
 wrapped p up small = omega (arith, up, small)

@@ -18,17 +18,6 @@ row_in : (g : List Row) (u : ℕ) (row : Row) → slice_get g u ≡ Some row →
 row_in g u row is = (u, slice_get_within g u row is, get_or_from_slice_get g u row row is)
 
 module _ {n : ℕ} where
-  -- where no list has an edge there is no road
-  pub map_none : (g : List Row) → length g ≡ n → All (λ (row : Row). row.items ≡ []) g → IsMap n [] g
-  map_none g long empty =
-      let none : (row : Row) → Contains g row → row.items ≡ [] = λ row in'. All-contains (λ (r : Row). r.items ≡ []) g row empty in' in
-      record {
-        long = long;
-        within = λ k d below. All-same (λ (e : Edge). e.node < n) (get_or g k d).items [] (empty k d below) (All-nil (λ (e : Edge). e.node < n));
-        roads_only = λ u e has. absurd (holds_none e (subst (λ es. Contains es e) (none has.row (row_in g u has.row has.row_is)) has.stands));
-        all_roads = λ road in'. absurd (holds_none road in');
-      }
-
   module _ {roads : List Road} {g : List Row} (m : IsMap n roads g) (r : Road) (start : r.start < n) (end : r.end < n) (row new : Row) (row_is : slice_get g r.start ≡ Some row) (new_is : new.items ≡ row.items ++ along r ∷ []) where
     abbrev after : List Row
     after = set g r.start new

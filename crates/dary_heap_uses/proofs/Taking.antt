@@ -24,16 +24,6 @@ pub record IsTaking (now : ℕ) (set left before after : List Timer) : Type 0 wh
   pub none_early : All (λ timer. timer.moment ≤ now) taken
   pub none_before : All (λ timer. All (λ other. timer.moment ≤ other.moment) left) taken
 
-pub IsTaking-begun : (now : ℕ) (set before after : List Timer) → after ≡ before → IsTaking now set set before after
-IsTaking-begun now set before after same = record {
-  taken = [];
-  added = same ∙ sym (append-nil before);
-  none_lost = IsPermutation-refl set;
-  in_order = IsNonDecreasingBy-short moment_of [] (omega arith);
-  none_early = All-nil _;
-  none_before = All-nil _;
-}
-
 module _ {now : ℕ} {set left before after : List Timer} (h : IsTaking now set left before after) where
   module _ (timer : Timer) (rest more : List Timer) (earliest : IsEarliest left timer) (due : timer.moment ≤ now) (bag : IsSameBag left (timer ∷ rest)) (is : more ≡ after ++ timer ∷ []) where
     -- what holds of all that were left holds of those that are left once one was taken
@@ -54,10 +44,3 @@ module _ {now : ℕ} {set left before after : List Timer} (h : IsTaking now set 
           (All-weaker (λ (t : Timer). All (λ (other : Timer). t.moment ≤ other.moment) left) (λ (t : Timer). All (λ (other : Timer). t.moment ≤ other.moment) rest) (λ t all. still (λ (other : Timer). t.moment ≤ other.moment) all) h.taken h.none_before)
           (still (λ (other : Timer). timer.moment ≤ other.moment) earliest.none_before);
     }
-
-  pub IsTaking-ended : All (λ timer. now < timer.moment) left → AddsDue now set left before after
-  IsTaking-ended later = record {
-    taken = h.taken;
-    added = h.added;
-    takes = record { none_lost = h.none_lost; in_order = h.in_order; none_early = h.none_early; all_due = later };
-  }

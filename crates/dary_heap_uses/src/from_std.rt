@@ -3,7 +3,6 @@ ghost use Rattle.std.specs.BinaryHeap.{IsHeap, heap_items};
 ghost use Rattle.std.specs.Prelude.{◌≡◌, ◌+◌, ◌-◌, ◌<◌, ◌≤◌, ◌↔◌, [], ◌∷◌, ℕ, All, length, slice_get, vec_len, Some, IsOk, IsSome, IfSome, IfOk, OnOk, OnErr};
 ghost use Rattle.dary_heap.specs.Bag.{IsSameBag};
 
-use crate::ranking::ranked;
 use dary_heap::{BinaryHeap, DaryHeap};
 use std::alloc::{AllocError, Global};
 use std::{collections, mem};
@@ -54,12 +53,17 @@ pub fn range(prices: Vec<u32>) -> Option<(u32, u32)>
     Some((sorted[0], sorted[sorted.len() - 1]))
 }
 
-/// Returns the prices from the highest down.
+/// Returns the prices from the highest down, by one pop after another.
 pub fn falling(alloc: Global, prices: BinaryHeap<u32>) -> Result<Vec<u32>, AllocError>
     ensures bag { IfOk result (λ list. IsSameBag prices.items list.items) }
     ensures falls { IfOk result (λ list. (i j x y : ℕ) → i ≤ j → slice_get list.items i ≡ Some x → slice_get list.items j ≡ Some y → y ≤ x) }
 {
-    ranked(alloc, prices)
+    let mut left = prices;
+    let mut list = Vec::with_capacity(alloc, left.len())?;
+    while let Some(price) = left.pop() {
+        list.push_reserved(price);
+    }
+    Ok(list)
 }
 
 /// Adds prices for which there is room. So it can't fail.

@@ -1,5 +1,5 @@
 -- How digits are read, one after another.
-use Rattle.std.proofs.Common.{◌≡◌, ◌+◌, ◌-◌, ◌*◌, ◌^◌, ◌<◌, ◌≤◌, ℕ, List, length, take, get_or, refl, sym, ap, subst, ◌∙◌, arith}
+use Rattle.std.proofs.Common.{◌≡◌, ◌+◌, ◌-◌, ◌*◌, ◌^◌, ◌<◌, ◌≤◌, ℕ, List, length, take, get_or, sym, ap, subst, ◌∙◌, arith}
 use Rattle.std.specs.Char.{digit_value}
 use Rattle.std.specs.Int.{IsInRange}
 use Rattle.std.specs.Str.Parse.{AllDigits, IsNumeral, digits_value}
@@ -14,9 +14,6 @@ pub record IsReadTo (ds : List ℕ) (i n : ℕ) : Type 0 where
   pub digits : AllDigits 10 (take i ds)
   pub number : n ≡ digits_value 10 (take i ds)
   pub fits : n < 2 ^ 64
-
-pub none_read : (ds : List ℕ) → IsReadTo ds 0 0
-none_read ds = record { digits = tt; number = refl; fits = omega arith }
 
 module _ (ds : List ℕ) (i n d : ℕ) (read : IsReadTo ds i n) (inside : i < length ds) (at : d ≡ get_or ds i 0) where
   value : IsInRange 48 57 d → digits_value 10 (take (i + 1) ds) ≡ n * 10 + (d - 48)

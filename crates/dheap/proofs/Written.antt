@@ -5,7 +5,7 @@ use Rattle.std.proofs.Math.Seq.{take-suc}
 use Rattle.std.proofs.lemmas.List.{map-append}
 use Rattle.std.proofs.lemmas.List.Concat.{flat_map-append}
 use Rattle.std.proofs.lemmas.List.Elements.{All-append, All-cons, All-from_all_within, All-map, All-nil}
-use Rattle.std.specs.Io.KnownBytes.{Appends, Keeps, append_known}
+use Rattle.std.specs.Io.KnownBytes.{Appends, append_known}
 use Rattle.dary_heap.specs.Machine as machine
 use Rattle.dary_heap.specs.Reading as read
 use Rattle.dary_heap.specs.declared.run.Reply.{Reply}
@@ -38,12 +38,6 @@ passed-on None b c held left told p q e = tt
 passed-on (Some x) None c held left told p q e = absurd p
 passed-on (Some x) (Some y) None held left told p q e = absurd q
 passed-on (Some x) (Some y) (Some z) held left told p q e = ap (λ l. z ++ l) e ∙ append-nil z ∙ q ∙ p
-
-pub all-passed : (a b c : Option (List ℕ)) (left told : List ℕ) → Appends a (append_known b left) told → left ≡ [] → Keeps b c → Appends a c told
-all-passed None b c left told p e q = tt
-all-passed (Some x) None c left told p e q = absurd p
-all-passed (Some x) (Some y) None left told p e q = absurd q
-all-passed (Some x) (Some y) (Some z) left told p e q = q ∙ sym (append-nil y) ∙ ap (λ l. y ++ l) (sym e) ∙ p
 
 pub all_answered : {D : ℕ} (replies : List (Reply ℤ D)) → AllWithin (λ r. IsAnswered (read.reply r)) replies 0 (length replies) → All IsAnswered (read.replies replies)
 all_answered replies h = All-map IsAnswered read.reply replies (All-from_all_within (λ r. IsAnswered (read.reply r)) replies h)

@@ -48,8 +48,8 @@ use Rattle.dary_heap.specs.declared.hole.places.Places.{Places}
 use Rattle.dary_heap.specs.contracts.hole.with_places as f
 use Rattle.dary_heap.specs.contracts.hole.with_places.F-FnOnce as taken
 use Rattle.dary_heap.specs.contracts.hole.with_places.Key.{name}
-use Rattle.dary_heap.proofs.PlacesOwned.{two_words, words, words_fit, Whole, full_row, lent_as_row, row_back}
-use Rattle.dary_heap.proofs.WalksAt.{Walk, one_valued}
+use Rattle.dary_heap.proofs.hole.PlacesOwned.{two_words, words, words_fit, Whole, full_row, lent_as_row, row_back}
+use Rattle.dary_heap.proofs.shortest_path.WalksAt.{Walk, one_valued}
 use Rattle.dary_heap.proofs.hole.with_places.Code as code
 use Rattle.dary_heap.proofs.hole.with_places.Statement.{statement}
 

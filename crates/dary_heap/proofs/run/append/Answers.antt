@@ -1,6 +1,6 @@
 use Rattle.std.proofs.Common.{ap}
 use Rattle.dary_heap.specs.Contents.{Contents}
-use Rattle.dary_heap.proofs.ServingMany.{appended, append_refused}
+use Rattle.dary_heap.proofs.run.ServingMany.{appended, append_refused}
 use Rattle.dary_heap.proofs.run.append.Goals as goal
 
 pub returns-in-Ok : goal.returns-in-Ok

@@ -1,4 +1,4 @@
-use Rattle.dary_heap.proofs.ServingMany.{cleared}
+use Rattle.dary_heap.proofs.run.ServingMany.{cleared}
 use Rattle.dary_heap.proofs.run.clear.Goals as goal
 
 pub returns : goal.returns

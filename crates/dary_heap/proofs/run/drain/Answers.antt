@@ -1,7 +1,7 @@
 use Rattle.std.proofs.Common.{◌≡◌, ◌++◌, ◌∷◌, [], length, take, min, refl, sym, ap, ◌∙◌, arith, append_assoc, length-append}
 use Rattle.dary_heap.specs.Drain.{drain_rest, emptied}
-use Rattle.dary_heap.proofs.ServingDrains.{drain_refused, drained, first_given, given_first}
-use Rattle.dary_heap.proofs.Written.{written_back}
+use Rattle.dary_heap.proofs.run.ServingDrains.{drain_refused, drained, first_given, given_first}
+use Rattle.dary_heap.proofs.sift.Written.{written_back}
 use Rattle.dary_heap.proofs.run.drain.Goals as goal
 
 pub returns-in_default : goal.returns-in_default

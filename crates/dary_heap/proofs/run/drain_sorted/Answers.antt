@@ -3,7 +3,7 @@ use Rattle.dary_heap.specs.Bounds.{RisesWithin}
 use Rattle.dary_heap.specs.Contents.{Contents}
 use Rattle.dary_heap.specs.DrainSorted.{drained_heap}
 use Rattle.dary_heap.specs.Popping.{IsPop}
-use Rattle.dary_heap.proofs.ServingDrains.{PopsThrough, PopsThrough-more, IsPop-step, popped_counted, popped_some, sorted_refused, drained_sorted}
+use Rattle.dary_heap.proofs.run.ServingDrains.{PopsThrough, PopsThrough-more, IsPop-step, popped_counted, popped_some, sorted_refused, drained_sorted}
 use Rattle.dary_heap.proofs.run.drain_sorted.Goals as goal
 
 pub returns-in_default : goal.returns-in_default

@@ -2,7 +2,7 @@ use Rattle.std.proofs.Common.{◌∷◌, [], ◌++◌, sym, ◌∙◌, subst, ap
 use Rattle.std.proofs.IntoIterSteps.{All-taken}
 use Rattle.std.specs.Vec.Iter.{into_iter_items}
 use Rattle.dary_heap.specs.Extending.{IsExtended}
-use Rattle.dary_heap.proofs.ServingMany.{extended, extend_refused, taken_front}
+use Rattle.dary_heap.proofs.run.ServingMany.{extended, extend_refused, taken_front}
 use Rattle.dary_heap.proofs.run.extend.Goals as goal
 
 pub returns-in-Ok : goal.returns-in-Ok

@@ -1,6 +1,6 @@
 use Rattle.std.proofs.Common.{refl, arith}
 use Rattle.dary_heap.proofs.Fronts.{same_state}
-use Rattle.dary_heap.proofs.Serving.{kept}
+use Rattle.dary_heap.proofs.run.Serving.{kept}
 use Rattle.dary_heap.proofs.run.len.Goals as goal
 
 pub returns : goal.returns

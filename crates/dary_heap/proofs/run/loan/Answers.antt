@@ -9,8 +9,8 @@ use Rattle.dary_heap.specs.HeapOrder.{IsHeapOrdered}
 use Rattle.dary_heap.specs.Machine as machine
 use Rattle.dary_heap.specs.PeekMut.{loaned}
 use Rattle.dary_heap.specs.Reading as read
-use Rattle.dary_heap.proofs.Serving.{empty}
-use Rattle.dary_heap.proofs.ServingLoan.{IsActed, IsActed-begins, IsActed-write, IsActed-refresh, IsLoan, cost-write, cost-refresh, loan_of_none, loan_refused, put_back, taken_out}
+use Rattle.dary_heap.proofs.run.Serving.{empty}
+use Rattle.dary_heap.proofs.run.ServingLoan.{IsActed, IsActed-begins, IsActed-write, IsActed-refresh, IsLoan, cost-write, cost-refresh, loan_of_none, loan_refused, put_back, taken_out}
 use Rattle.dary_heap.proofs.run.loan.Goals as goal
 use Rattle.dary_heap.proofs.run.loan.Given.{Over}
 use Rattle.dary_heap.proofs.run.loan.Goals.{Joined-end, in-Write, in-Refresh, in-Drop, in-Pop}

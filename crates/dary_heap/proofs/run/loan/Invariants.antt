@@ -3,7 +3,7 @@ use Rattle.std.specs.Vec.Iter.{into_iter_items, into_iter_len}
 use Rattle.dary_heap.specs.Bounds.{refreshes, sink_bound}
 use Rattle.dary_heap.specs.PeekMut.{loaned, lender}
 use Rattle.dary_heap.specs.Reading as read
-use Rattle.dary_heap.proofs.ServingLoan.{IsActed}
+use Rattle.dary_heap.proofs.run.ServingLoan.{IsActed}
 use Rattle.dary_heap.proofs.run.loan.Given as goal
 
 abbrev pub invariant-loop-act : goal.invariant-loop-act

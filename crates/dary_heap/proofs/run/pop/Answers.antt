@@ -1,4 +1,4 @@
-use Rattle.dary_heap.proofs.Serving.{pops}
+use Rattle.dary_heap.proofs.run.Serving.{pops}
 use Rattle.dary_heap.proofs.run.pop.Goals as goal
 
 pub returns : goal.returns

@@ -1,4 +1,4 @@
-use Rattle.dary_heap.proofs.Serving.{pushed, push_refused}
+use Rattle.dary_heap.proofs.run.Serving.{pushed, push_refused}
 use Rattle.dary_heap.proofs.run.push.Goals as goal
 
 pub returns-in-Ok : goal.returns-in-Ok

@@ -1,6 +1,6 @@
 use Rattle.std.proofs.Common.{refl, arith}
 use Rattle.dary_heap.proofs.Fronts.{same_state}
-use Rattle.dary_heap.proofs.Serving.{kept}
+use Rattle.dary_heap.proofs.run.Serving.{kept}
 use Rattle.dary_heap.proofs.run.reserve.Goals as goal
 
 pub returns-in-Ok : goal.returns-in-Ok

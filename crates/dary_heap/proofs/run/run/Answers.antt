@@ -4,10 +4,10 @@ use Rattle.std.proofs.lemmas.List.Elements.{Contains-append_left, Contains-appen
 use Rattle.std.specs.Vec.Iter.{into_iter_items}
 use Rattle.dary_heap.specs.Asking.{IsCallableOn, items_in, predicates_in}
 use Rattle.dary_heap.specs.Reading as read
-use Rattle.dary_heap.proofs.Asking.{callable_one, items_of_one}
+use Rattle.dary_heap.proofs.run.Asking.{callable_one, items_of_one}
 use Rattle.dary_heap.proofs.Fronts.{ordered_state}
-use Rattle.dary_heap.proofs.Runs.{Runs-begins, Runs-more}
-use Rattle.dary_heap.proofs.Serving.{empty}
+use Rattle.dary_heap.proofs.run.Runs.{Runs-begins, Runs-more}
+use Rattle.dary_heap.proofs.run.Serving.{empty}
 use Rattle.dary_heap.proofs.run.run.Goals as goal
 
 -- what was read of a list of commands, where one of them stands

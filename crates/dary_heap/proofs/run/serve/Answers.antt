@@ -1,7 +1,7 @@
 use Rattle.std.proofs.Common.{rules, arith}
-use Rattle.dary_heap.proofs.Serving.{asks, callable_on_front}
-use Rattle.dary_heap.proofs.ServingMany.{pops_where}
-use Rattle.dary_heap.proofs.ServingPlain.{plain}
+use Rattle.dary_heap.proofs.run.Serving.{asks, callable_on_front}
+use Rattle.dary_heap.proofs.run.ServingMany.{pops_where}
+use Rattle.dary_heap.proofs.run.ServingPlain.{plain}
 use Rattle.dary_heap.proofs.run.serve.Goals as goal
 
 pub pop_if-requires : goal.pop_if-requires

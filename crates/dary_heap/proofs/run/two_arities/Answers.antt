@@ -1,5 +1,5 @@
 use Rattle.std.specs.Fn.{CalledAt}
-use Rattle.dary_heap.proofs.SameReplies.{same_replies}
+use Rattle.dary_heap.proofs.run.SameReplies.{same_replies}
 use Rattle.dary_heap.proofs.run.two_arities.Goals as goal
 
 pub returns : goal.returns

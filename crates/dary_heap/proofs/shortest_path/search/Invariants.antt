@@ -1,7 +1,7 @@
 use Rattle.std.proofs.Common.{◌≡◌, ℕ, ◌+◌, ◌≤◌, List, length, sum}
 use Rattle.dary_heap.specs.Examining.{all_edges_of}
-use Rattle.dary_heap.proofs.Examining.{AreOnce, IsCharged}
-use Rattle.dary_heap.proofs.Searching.{IsSearch}
+use Rattle.dary_heap.proofs.shortest_path.Examining.{AreOnce, IsCharged}
+use Rattle.dary_heap.proofs.shortest_path.Searching.{IsSearch}
 use Rattle.dary_heap.proofs.shortest_path.search.Given as goal
 
 abbrev pub invariant-loop-cost : goal.invariant-loop-cost

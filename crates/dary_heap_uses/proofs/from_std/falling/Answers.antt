@@ -1,15 +1,18 @@
-use Rattle.std.proofs.Common.{◌≡◌, ◌≤◌, ℕ, Result, Ok, Err, Vec, IfOk, slice_get, Some}
+use Rattle.std.proofs.Common.{arith}
 use Rattle.std.proofs.lemmas.Cmp.{nat_cmp_total}
-use Rattle.std.specs.Ordering.{nat_cmp}
-use Rattle.std.specs.declared.alloc.AllocError.{AllocError}
-use Rattle.std.specs.declared.alloc.Global.{Global}
-use Rattle.dary_heap.specs.Popping.{IsDescending}
-use Rattle.dary_heap.proofs.Callers.{descending_at, nat_le_from_cmp}
+use Rattle.std.proofs.lemmas.List.Sorted.{length_permutation}
+use Rattle.dary_heap.proofs.Callers.{IsGivenDescending-pop, descending_at, nat_le_from_cmp}
 use Rattle.dary_heap_uses.proofs.from_std.falling.Goals as goal
 
-by_places : (r : Result (Vec ℕ Global) AllocError) → IfOk r (λ list. IsDescending nat_cmp list.items) → IfOk r (λ list. (i j x y : ℕ) → i ≤ j → slice_get list.items i ≡ Some x → slice_get list.items j ≡ Some y → y ≤ x)
-by_places (Ok list) h = λ i j x y before at_i at_j. nat_le_from_cmp y x (descending_at nat_cmp_total list.items h i j x y before at_i at_j)
-by_places (Err e) h = tt
+pub loop-price-preserved : goal.loop-price-preserved
+loop-price-preserved c =
+    let before = c.loop-price.invariant in
+    let popped = c.in-Some.ensures in
+    let came = c.push_reserved.ensures in
+    record {
+      given = rw came.items (IsGivenDescending-pop _ _ _ _ _ before.given popped.greatest popped.bag);
+      room = omega (arith, before.room, length_permutation _ _ popped.bag, came.len, came.capacity);
+    }
 
 pub returns-clause-falls : goal.returns-clause-falls
-returns-clause-falls c = by_places c.ranked.result c.ranked.ensures.descending
+returns-clause-falls c = λ i j x y before at_i at_j. nat_le_from_cmp y x (descending_at nat_cmp_total c.loop-price.list.items c.loop-price.invariant.given.descending i j x y before at_i at_j)

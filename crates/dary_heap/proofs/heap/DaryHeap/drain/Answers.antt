@@ -2,9 +2,9 @@ use Rattle.std.proofs.Common.{Vec, vec_capacity, vec_len, refl, ap, ◌∙◌}
 use Rattle.std.specs.declared.alloc.Global.{Global}
 use Rattle.dary_heap.specs.Contents.{Contents}
 use Rattle.dary_heap.specs.Drain.{drain_rest}
-use Rattle.dary_heap.proofs.Iterating.{runs, runs_back}
+use Rattle.dary_heap.proofs.iter.Iterating.{runs, runs_back}
 use Rattle.dary_heap.proofs.Order.{none_ordered}
-use Rattle.dary_heap.proofs.Written.{none_written, same_contents}
+use Rattle.dary_heap.proofs.sift.Written.{none_written, same_contents}
 use Rattle.dary_heap.proofs.heap.DaryHeap.drain.Goals as goal
 
 -- what the heap is left has no place that the loan could write to

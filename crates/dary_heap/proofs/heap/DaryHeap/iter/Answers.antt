@@ -1,4 +1,4 @@
-use Rattle.dary_heap.proofs.Iterating.{runs_refs, runs_refs_back}
+use Rattle.dary_heap.proofs.iter.Iterating.{runs_refs, runs_refs_back}
 use Rattle.dary_heap.proofs.heap.DaryHeap.iter.Goals as goal
 
 pub returns-clause-runs : goal.returns-clause-runs

@@ -3,9 +3,9 @@ use Rattle.std.specs.List.{items_where_true}
 use Rattle.dary_heap.specs.Bounds.{RisesWithin, mend_bound}
 use Rattle.dary_heap.specs.Filtering.{first_no}
 use Rattle.dary_heap.specs.HeapOrder.{IsHeapOrdered}
-use Rattle.dary_heap.proofs.Filtering.{picked-all, picked-front, length-picked, length-picked_most, first_no-within}
-use Rattle.dary_heap.proofs.Tail.{front-ordered}
-use Rattle.dary_heap.proofs.Written.{written_back, same_contents}
+use Rattle.dary_heap.proofs.heap.Filtering.{picked-all, picked-front, length-picked, length-picked_most, first_no-within}
+use Rattle.dary_heap.proofs.sift.Tail.{front-ordered}
+use Rattle.dary_heap.proofs.sift.Written.{written_back, same_contents}
 use Rattle.dary_heap.proofs.heap.DaryHeap.retain.Goals as goal
 
 pub keep-start-requires : goal.keep-start-requires

@@ -8,7 +8,7 @@ use Rattle.std.proofs.Retain.{picked_push_false}
 use Rattle.dary_heap.specs.Asking.{TakesInTurn}
 use Rattle.dary_heap.specs.Filtering.{first_no}
 use Rattle.dary_heap.proofs.Exchange.{Exchanges, exchanges}
-use Rattle.dary_heap.proofs.Filtering.{ReturnsInTurn-more, picked-yes, first_no-within, first_no-next, first_no-still, next_asked, take-before, take-brought}
+use Rattle.dary_heap.proofs.heap.Filtering.{ReturnsInTurn-more, picked-yes, first_no-within, first_no-next, first_no-still, next_asked, take-before, take-brought}
 use Rattle.dary_heap.proofs.heap.filter.keep.Invariants.{Told}
 use Rattle.dary_heap.proofs.heap.filter.keep.Goals as goal
 

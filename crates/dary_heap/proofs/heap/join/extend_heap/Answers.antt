@@ -2,8 +2,8 @@ use Rattle.std.proofs.Common.{◌≡◌, ◌++◌, length, take, map, vec_capaci
 use Rattle.std.proofs.lemmas.Result.{MatchResult-weaker}
 use Rattle.dary_heap.specs.Extending.{IsExtended}
 use Rattle.dary_heap.specs.HeapOrder.{IsHeapOrdered}
-use Rattle.dary_heap.proofs.Extending.{Yields-front, mended}
-use Rattle.dary_heap.proofs.Written.{written_back}
+use Rattle.dary_heap.proofs.heap.Extending.{Yields-front, mended}
+use Rattle.dary_heap.proofs.sift.Written.{written_back}
 use Rattle.dary_heap.proofs.heap.join.extend_heap.Given.{Over}
 use Rattle.dary_heap.proofs.heap.join.extend_heap.Goals.{After-mend_with}
 use Rattle.dary_heap.proofs.heap.join.extend_heap.Goals as goal

@@ -1,6 +1,6 @@
 use Rattle.std.proofs.Common.{◌++◌, [], ◌∷◌, sym, ap, ◌∙◌, arith, append-nil, length-append}
 use Rattle.std.proofs.iter.Next.{begun, again, less, Gave-then}
-use Rattle.dary_heap.proofs.Extending.{came_both}
+use Rattle.dary_heap.proofs.heap.Extending.{came_both}
 use Rattle.dary_heap.proofs.heap.join.pour.Goals as goal
 
 pub loop-rest-init : goal.loop-rest-init

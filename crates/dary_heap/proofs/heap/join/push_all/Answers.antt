@@ -2,7 +2,7 @@ use Rattle.std.proofs.Common.{◌≡◌, ◌++◌, [], ◌∷◌, vec_len, vec_c
 use Rattle.std.proofs.iter.Next.{begun, again, less, drained, if_yes, if_no, said, Yields-more}
 use Rattle.std.proofs.lemmas.Result.{err_from_is_err_and}
 use Rattle.std.specs.Bool.{OnFalse}
-use Rattle.dary_heap.proofs.Extending.{came_both, ran_dry, ran_on}
+use Rattle.dary_heap.proofs.heap.Extending.{came_both, ran_dry, ran_on}
 use Rattle.dary_heap.proofs.heap.join.push_all.Goals as goal
 
 pub loop-rest-init : goal.loop-rest-init

@@ -1,9 +1,9 @@
 use Rattle.std.proofs.lemmas.List.Sorted.{IsPermutation-refl, length_permutation}
 use Rattle.std.proofs.Common.{rules, ◌≡◌, refl, ap, ◌∙◌, length}
 use Rattle.dary_heap.specs.State.{front}
-use Rattle.dary_heap.proofs.Loans.{lone_uncounted, lone_unexceeded, sunk_unmoved}
-use Rattle.dary_heap.proofs.Uncounted.{stays}
-use Rattle.dary_heap.proofs.Written.{same_contents, written_back}
+use Rattle.dary_heap.proofs.peek_mut.Loans.{lone_uncounted, lone_unexceeded, sunk_unmoved}
+use Rattle.dary_heap.proofs.sift.Uncounted.{stays}
+use Rattle.dary_heap.proofs.sift.Written.{same_contents, written_back}
 use Rattle.dary_heap.proofs.peek_mut.PeekMut.drop.Goals as goal
 use Rattle.dary_heap.proofs.peek_mut.PeekMut.drop.Goals.{then-written, else-written}
 

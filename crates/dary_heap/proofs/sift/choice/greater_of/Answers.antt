@@ -1,6 +1,6 @@
 use Rattle.std.proofs.Common.{length, refl, sym, ◌∙◌, arith}
 use Rattle.std.proofs.lemmas.Option.{slice_get_read}
-use Rattle.dary_heap.proofs.Row.{joins, joins-left, joins-right}
+use Rattle.dary_heap.proofs.sift.Row.{joins, joins-left, joins-right}
 use Rattle.dary_heap.proofs.sift.choice.greater_of.Goals as goal
 
 pub returns-then-is_second-clause-greatest : goal.returns-then-is_second-clause-greatest

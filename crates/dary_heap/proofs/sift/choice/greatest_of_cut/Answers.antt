@@ -1,8 +1,8 @@
 use Rattle.std.proofs.Common.{◌≡◌, ◌+◌, ◌*◌, ◌<◌, ap, refl, arith}
 use Rattle.dary_heap.specs.Choosing.{Chooses}
-use Rattle.dary_heap.proofs.Choosing.{cut_row}
+use Rattle.dary_heap.proofs.sift.Choosing.{cut_row}
 use Rattle.dary_heap.proofs.Place.{no_whole_row}
-use Rattle.dary_heap.proofs.Row.{begins}
+use Rattle.dary_heap.proofs.sift.Row.{begins}
 use Rattle.dary_heap.proofs.sift.choice.greatest_of_cut.Goals as goal
 
 pub returns-in-2 : goal.returns-in-2

@@ -1,6 +1,6 @@
 use Rattle.std.proofs.Common.{◌+◌, subst, arith}
 use Rattle.dary_heap.specs.Sifting.{IsLastGreatest}
-use Rattle.dary_heap.proofs.Row.{begins}
+use Rattle.dary_heap.proofs.sift.Row.{begins}
 use Rattle.dary_heap.proofs.sift.choice.greatest_of_three.Goals as goal
 
 pub overflow_add-first : goal.overflow_add-first

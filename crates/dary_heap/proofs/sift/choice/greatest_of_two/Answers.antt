@@ -2,7 +2,7 @@ use Rattle.std.proofs.Common.{◌≡◌, ℕ, ◌+◌, Bool, true, false, if◌t
 use Rattle.std.proofs.lemmas.Option.{slice_get_read}
 use mir.Val.{bool_byte}
 use Rattle.dary_heap.specs.Sifting.{IsLastGreatest}
-use Rattle.dary_heap.proofs.Row.{begins, joins}
+use Rattle.dary_heap.proofs.sift.Row.{begins, joins}
 use Rattle.dary_heap.proofs.sift.choice.greatest_of_two.Goals as goal
 
 stepped : (t : Bool) (n : ℕ) → n + bool_byte t ≡ (if t then n + 1 else n)

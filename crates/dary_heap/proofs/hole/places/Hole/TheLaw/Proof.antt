@@ -11,7 +11,7 @@ use denote.Struct.Lending.{of_Lends}
 use Rattle.dary_heap.specs.Places.{filled_but}
 use Rattle.dary_heap.specs.contracts.hole.places.Hole as C
 use Rattle.dary_heap.specs.declared.hole.places.Hole.{Hole}
-use Rattle.dary_heap.proofs.SlotsLent.{Lendable, slots_lendable}
+use Rattle.dary_heap.proofs.hole.SlotsLent.{Lendable, slots_lendable}
 use Rattle.dary_heap.proofs.hole.places.Hole.TheLaw.Statement.{statement}
 
 pub shares : (T : RattleType) (L : Laws T) → statement T L

@@ -42,8 +42,8 @@ use Rattle.dary_heap.specs.declared.hole.places.Hole.{Hole}
 use Rattle.dary_heap.specs.declared.hole.places.Places.{Places}
 use Rattle.dary_heap.specs.contracts.hole.places.Hole.fill as f
 use Rattle.dary_heap.specs.contracts.hole.places.Hole.fill.Key.{name}
-use Rattle.dary_heap.proofs.PlacesOwned.{two_words, words, words_fit, Hollow, filled_again, many_marks, hollow_tells, size_fits, offset_fits, row_found, row_in}
-use Rattle.dary_heap.proofs.WalksAt.{Walk}
+use Rattle.dary_heap.proofs.hole.PlacesOwned.{two_words, words, words_fit, Hollow, filled_again, many_marks, hollow_tells, size_fits, offset_fits, row_found, row_in}
+use Rattle.dary_heap.proofs.shortest_path.WalksAt.{Walk}
 use Rattle.dary_heap.proofs.hole.places.Hole.fill.Code as code
 use Rattle.dary_heap.proofs.hole.places.Hole.fill.Statement.{statement}
 

@@ -27,7 +27,7 @@ use Rattle.core.proofs.mem.Param.{El, args}
 use Rattle.core.proofs.slots.Bodies.{after}
 use Rattle.core.proofs.slots.Lent.{pointer_in, pointer_out}
 use Rattle.core.proofs.slots.Places.{sz}
-use Rattle.dary_heap.proofs.HoleSeen.{others, by_ref, self_shown, item_shown}
+use Rattle.dary_heap.proofs.hole.HoleSeen.{others, by_ref, self_shown, item_shown}
 use Rattle.dary_heap.specs.contracts.hole.places.Hole.get as F
 use Rattle.dary_heap.proofs.hole.places.Hole.get.Statement.{statement}
 use Rattle.dary_heap.proofs.hole.places.Hole.get.Code as code

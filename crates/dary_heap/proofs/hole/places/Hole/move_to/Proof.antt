@@ -39,7 +39,7 @@ use Rattle.dary_heap.specs.Places.{filled_but}
 use Rattle.dary_heap.specs.declared.hole.places.Hole.{Hole}
 use Rattle.dary_heap.specs.contracts.hole.places.Hole.move_to as f
 use Rattle.dary_heap.specs.contracts.hole.places.Hole.move_to.Key.{name}
-use Rattle.dary_heap.proofs.PlacesOwned.{Hollow, filled_but_other, holds_other, many_marks, size_fits, offset_fits, hollow_opened, hollow_closed}
+use Rattle.dary_heap.proofs.hole.PlacesOwned.{Hollow, filled_but_other, holds_other, many_marks, size_fits, offset_fits, hollow_opened, hollow_closed}
 use Rattle.dary_heap.proofs.hole.places.Hole.move_to.Code as code
 use Rattle.dary_heap.proofs.hole.places.Hole.move_to.Statement.{statement}
 

@@ -41,7 +41,7 @@ use Rattle.dary_heap.specs.declared.hole.places.Hole.{Hole}
 use Rattle.dary_heap.specs.declared.hole.places.Places.{Places}
 use Rattle.dary_heap.specs.contracts.hole.places.Places.take as f
 use Rattle.dary_heap.specs.contracts.hole.places.Places.take.Key.{name}
-use Rattle.dary_heap.proofs.PlacesOwned.{two_words, words, words_fit, Whole, Hollow, whole_tells, size_fits, offset_fits, row_found, row_in}
+use Rattle.dary_heap.proofs.hole.PlacesOwned.{two_words, words, words_fit, Whole, Hollow, whole_tells, size_fits, offset_fits, row_found, row_in}
 use Rattle.dary_heap.proofs.hole.places.Places.take.Code as code
 use Rattle.dary_heap.proofs.hole.places.Places.take.Statement.{statement}
 

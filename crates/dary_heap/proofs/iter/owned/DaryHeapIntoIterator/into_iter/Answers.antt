@@ -1,5 +1,5 @@
 use Rattle.std.proofs.Common.{◌∙◌}
-use Rattle.dary_heap.proofs.Iterating.{runs, runs_back}
+use Rattle.dary_heap.proofs.iter.Iterating.{runs, runs_back}
 use Rattle.dary_heap.proofs.iter.owned.DaryHeapIntoIterator.into_iter.Goals as goal
 
 pub returns : goal.returns

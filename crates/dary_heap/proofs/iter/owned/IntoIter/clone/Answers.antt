@@ -1,5 +1,5 @@
 use Rattle.std.proofs.Common.{◌∙◌}
-use Rattle.dary_heap.proofs.Cloning.{same}
+use Rattle.dary_heap.proofs.heap.Cloning.{same}
 use Rattle.dary_heap.proofs.iter.owned.IntoIter.clone.Goals as goal
 
 pub returns : goal.returns

@@ -1,11 +1,11 @@
 use Rattle.std.proofs.Common.{rules, refl, ap, ◌≡◌, ◌∙◌, List, ◌++◌, length, take, arith}
 use Rattle.dary_heap.specs.Contents.{Contents}
 use Rattle.std.proofs.lemmas.List.Sorted.{IsPermutation-refl, length_permutation}
-use Rattle.dary_heap.proofs.BelowRoot.{below_root}
+use Rattle.dary_heap.proofs.sift.BelowRoot.{below_root}
 use Rattle.dary_heap.proofs.Fronts.{ordered_state}
-use Rattle.dary_heap.proofs.Loans.{lone_uncounted, lone_unexceeded, none_exceeds, sunk_moved, sunk_unmoved}
-use Rattle.dary_heap.proofs.Uncounted.{stays}
-use Rattle.dary_heap.proofs.Written.{same_contents, written_back}
+use Rattle.dary_heap.proofs.peek_mut.Loans.{lone_uncounted, lone_unexceeded, none_exceeds, sunk_moved, sunk_unmoved}
+use Rattle.dary_heap.proofs.sift.Uncounted.{stays}
+use Rattle.dary_heap.proofs.sift.Written.{same_contents, written_back}
 use Rattle.dary_heap.proofs.peek_mut.methods.PeekMut+T+D.refresh.Goals as goal
 
 pub returns-then-not-self : goal.returns-then-not-self

@@ -6,7 +6,7 @@ use Rattle.std.proofs.lemmas.List.{get_or_default}
 use Rattle.std.proofs.lemmas.List.Elements.{Contains-push, Contains-append_left, Contains-append_right, Contains-append_cases}
 use Rattle.std.proofs.lemmas.List.Sorted.{length_permutation}
 use Rattle.std.proofs.lemmas.List.Sums.{sum_by-set}
-use Rattle.dary_heap.proofs.Apart.{apart_more}
+use Rattle.dary_heap.proofs.shortest_path.Apart.{apart_more}
 use Rattle.dary_heap.proofs.Bags.{came_first, came_later, came_cases}
 use Rattle.dary_heap.proofs.Fronts.{alone}
 use Rattle.dary_heap.specs.Bag.{IsSameBag}

@@ -22,11 +22,11 @@ use Rattle.dary_heap.specs.HeapOrder.{IsHeapOrdered, depth}
 use Rattle.dary_heap.specs.Machine.{PopIf, Retain, Extend, Append, Clear, Popped, Done, ExtendRefused, AppendRefused}
 use Rattle.dary_heap.specs.Run.{Serves}
 use Rattle.dary_heap.specs.State.{IsJoined, front}
-use Rattle.dary_heap.proofs.Filtering.{few_picked}
+use Rattle.dary_heap.proofs.heap.Filtering.{few_picked}
 use Rattle.dary_heap.proofs.Fronts.{ordered_state, same_state}
 use Rattle.dary_heap.proofs.Order.{none_ordered, read}
-use Rattle.dary_heap.proofs.Serving.{Told, empty, rest, told}
-use Rattle.dary_heap.proofs.Uncounted.{stays}
+use Rattle.dary_heap.proofs.run.Serving.{Told, empty, rest, told}
+use Rattle.dary_heap.proofs.sift.Uncounted.{stays}
 
 -- taking in fewer items costs no more
 fewer : (D n j k : ℕ) (b c : Bool) → (j == 0) ≡ b → (k == 0) ≡ c → j ≤ k → (if b then 0 else max (build_bound D n) (j * depth D (n - 1))) ≤ (if c then 0 else max (build_bound D n) (k * depth D (n - 1)))

@@ -16,7 +16,7 @@ use Rattle.dary_heap.specs.Run.{IsServed, Serves, room, sure_after}
 use Rattle.dary_heap.specs.State.{front, front_with}
 use Rattle.dary_heap.proofs.Fronts.{alone, ordered_state, same_state}
 use Rattle.dary_heap.proofs.Order.{read}
-use Rattle.dary_heap.proofs.Uncounted.{stays}
+use Rattle.dary_heap.proofs.sift.Uncounted.{stays}
 
 -- a list without items
 pub empty : {X : Type 0} (xs : List X) → length xs ≤ 0 → xs ≡ []

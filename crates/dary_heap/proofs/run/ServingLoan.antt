@@ -19,8 +19,8 @@ use Rattle.dary_heap.proofs.Bags.{Contains-cases, Contains-first, Contains-later
 use Rattle.dary_heap.proofs.Cancelling.{IsPermutation-uncons}
 use Rattle.dary_heap.proofs.Depth.{times_depth-later}
 use Rattle.dary_heap.proofs.Fronts.{ordered_state, same_state}
-use Rattle.dary_heap.proofs.Serving.{empty, kept}
-use Rattle.dary_heap.proofs.States.{HasGreater-same_bag}
+use Rattle.dary_heap.proofs.run.Serving.{empty, kept}
+use Rattle.dary_heap.proofs.run.States.{HasGreater-same_bag}
 
 module _ {X : Type 0} (cmp : X → X → Ordering) where
   -- of the rest the acts read its bag alone

@@ -7,9 +7,9 @@ use Rattle.std.proofs.lemmas.List.{get_or_default, get_or_past, get_or-replicate
 use Rattle.std.proofs.lemmas.List.Sorted.{IsPermutation-sym}
 use Rattle.std.proofs.lemmas.Option.{slice_get_read}
 use Rattle.dary_heap.specs.Bag.{IsSameBag, IsGreatest}
-use Rattle.dary_heap.proofs.Cheapest.{no_cheaper}
+use Rattle.dary_heap.proofs.shortest_path.Cheapest.{no_cheaper}
 use Rattle.dary_heap.proofs.Bags.{holds_none, came_first, came_later, came_cases}
-use Rattle.dary_heap.proofs.Walks.{Reaches, reaches_self, reaches_more, in_row, leads_within}
+use Rattle.dary_heap.proofs.shortest_path.Walks.{Reaches, reaches_self, reaches_more, in_row, leads_within}
 use Rattle.dary_heap.specs.Searching.{state_cmp, state, IsAlong, HasTooLarge, Relaxes}
 use Rattle.dary_heap.specs.Walk.{Graph, IsWithin, HasEdge, IsWalk, cost_of, IsLeastCost, IsUnreached, HasCritical, NoneCriticalBelow}
 use Rattle.dary_heap.specs.declared.shortest_path.Edge.{Edge}

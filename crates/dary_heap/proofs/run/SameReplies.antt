@@ -16,7 +16,7 @@ use Rattle.dary_heap.specs.State.{IsState, front}
 use Rattle.dary_heap.specs.TwoArities.{HasNoTies, IsSettled, IsUnrefused, RunsUnrefused, SameRepliesAtTwoArities}
 use Rattle.dary_heap.proofs.Bags.{Contains-cases, Contains-first, Contains-later}
 use Rattle.dary_heap.proofs.Cancelling.{IsPermutation-uncons}
-use Rattle.dary_heap.proofs.States.{HasGreater-same_bag, Step-state}
+use Rattle.dary_heap.proofs.run.States.{HasGreater-same_bag, Step-state}
 
 -- the items of xs are among those values
 abbrev IsAmong : {X : Type 0} → List X → List X → Type 0

@@ -11,8 +11,8 @@ use Rattle.dary_heap.specs.Popping.{IsPop}
 use Rattle.dary_heap.specs.Run.{Serves}
 use Rattle.dary_heap.proofs.Fronts.{ordered_state, same_state}
 use Rattle.dary_heap.proofs.Order.{none_ordered, read}
-use Rattle.dary_heap.proofs.Popping.{pops_bound_step}
-use Rattle.dary_heap.proofs.Serving.{empty, kept}
+use Rattle.dary_heap.proofs.iter.Popping.{pops_bound_step}
+use Rattle.dary_heap.proofs.run.Serving.{empty, kept}
 
 -- where some of the first k were wanted and there was no room for them, k is not 0 and there is an item
 wanted : {X : Type 0} (xs : List X) (k : ℕ) → (min k (length xs) ≡ 0 → ⊥) → (xs ≢ []) × (k ≢ 0)

@@ -1,12 +1,12 @@
 -- Of a state no step reads more than its bag and its front: the order of the list behind the first item is free.
-use Rattle.std.proofs.Common.{◌≡◌, ◌≢◌, ℕ, zero, suc, Bool, false, List, [], ◌∷◌, length, refl, sym, ap, ◌∙◌, subst, arith, inl, inr, Option, Some, None}
+use Rattle.std.proofs.Common.{◌≡◌, ◌≢◌, ℕ, zero, suc, Bool, false, List, [], ◌∷◌, length, refl, sym, ap, ◌∙◌, arith, inl, inr, Option, Some, None}
 use Rattle.std.specs.declared.cmp.Ordering.{Ordering}
 use Rattle.std.proofs.lemmas.List.Sorted.{IsPermutation-sym, IsPermutation-trans, IsPermutation-cons, IsPermutation-append_left, length_permutation}
 use Rattle.dary_heap.specs.Machine.{End, PutBack, TakeOut, Command, Reply, Push, Pop, PopIf, Ask, Len, Retain, Extend, Append, Reserve, Shrink, Clear, Drain, DrainSorted, Loan, Pushed, PushRefused, Popped, Asked, Size, Done, ExtendRefused, AppendRefused, Refused, Taken, Loaned, Ends, MayAnswer, Pops, PopsInTurn, Step}
 use Rattle.dary_heap.specs.State.{IsSameState, IsJoined, front_with}
 use Rattle.dary_heap.proofs.Fronts.{same_state}
-use Rattle.dary_heap.proofs.Serving.{empty}
-use Rattle.dary_heap.proofs.States.{IsState-same}
+use Rattle.dary_heap.proofs.run.Serving.{empty}
+use Rattle.dary_heap.proofs.run.States.{IsState-same}
 
 module _ {X : Type 0} where
   turned : (xs ys : List X) → IsSameState xs ys → IsSameState ys xs
@@ -100,10 +100,3 @@ module _ {X P : Type 0} (cmp : X → X → Ordering) (answers : P → X → Bool
   )
   Step-same_state (Loan acts end) Refused old old' new new' from to h = (some old old' from h.0, h.1, kept cmp answers old old' new new' from to h.2)
   Step-same_state command reply old old' new new' from to h = absurd h
-
-  -- what a question is asked about is what the next pop gives
-  pub Ask-then-Pop : (p : P) (answer : Bool) (m : X) (old mid new : List X) → Step cmp answers old (Ask p) (Asked (Some answer)) mid → Step cmp answers mid Pop (Popped (Some m)) new → (after : P) × answers p m answer after
-  Ask-then-Pop p answer m old mid new ask pop =
-      let same : Some ask.0.0 ≡ Some m = sym ask.0.1 ∙ sym ask.1.first ∙ pop.0 in
-      let is : ask.0.0 ≡ m = (cc) in
-      subst (λ v. (after : P) × answers p v answer after) is ask.0.2

@@ -12,9 +12,9 @@ use Rattle.std.specs.Bool.{Decides}
 use Rattle.std.specs.Cmp.{nat_eq_equiv, unsigned_Decides}
 use Rattle.std.specs.declared.alloc.Global.{Global}
 use Rattle.std.specs.List.{AllByRecursion, IsDistinct, sum_by}
-use Rattle.dary_heap.proofs.Apart.{apart_more, apart_less, not_twice}
+use Rattle.dary_heap.proofs.shortest_path.Apart.{apart_more, apart_less, not_twice}
 use Rattle.dary_heap.proofs.Bags.{came_first, came_later, came_cases, holds_none}
-use Rattle.dary_heap.proofs.Cheapest.{no_cheaper}
+use Rattle.dary_heap.proofs.shortest_path.Cheapest.{no_cheaper}
 use Rattle.dary_heap.proofs.Depth.{depth-later, times_depth-later}
 use Rattle.dary_heap.specs.Bag.{IsSameBag, IsGreatest}
 use Rattle.dary_heap.specs.Bounds.{RisesWithin, push_bound, pop_bound}

@@ -1,0 +1,3 @@
+-- The lemmas of the module `iter`.
+pub mod Iterating
+pub mod Popping

@@ -1,0 +1,3 @@
+-- The lemmas of the module `peek_mut`.
+pub mod Loans
+pub mod Lowering
