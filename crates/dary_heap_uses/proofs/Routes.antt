@@ -1,11 +1,10 @@
 -- Roads as the edges of a graph.
-use Rattle.std.proofs.Common.{◌≡◌, ◌≢◌, ℕ, ◌<◌, inl, inr, List, [], ◌∷◌, ◌++◌, length, Contains, All, arith, get_or, get_or-set_same, get_or-set_other, refl, sym, ap, ◌∙◌, subst, Option, Some, None, IfNone, slice_get, Vec}
+use Rattle.std.proofs.Common.{◌≡◌, ◌≢◌, ℕ, ◌<◌, inl, inr, List, [], ◌∷◌, ◌++◌, length, Contains, All, arith, get_or-set_same, get_or-set_other, refl, sym, ap, ◌∙◌, subst, Option, Some, None, IfNone, slice_get, Vec}
 use Rattle.std.specs.declared.alloc.Global.{Global}
 use Rattle.std.proofs.Math.ListN.{set, length-set}
 use Rattle.std.proofs.lemmas.Bool.{cases_eq, cases_lt}
-use Rattle.std.proofs.lemmas.List.Elements.{All-set, All-contains, All-nil, All-push, All-same, Contains-push, Contains-push_cases, Contains-append_left}
+use Rattle.std.proofs.lemmas.List.Elements.{All-set, All-contains, All-push, All-same, Contains-push, Contains-push_cases, Contains-append_left}
 use Rattle.std.proofs.lemmas.Option.{slice_get_within, slice_get-get_or, slice_get_past, get_or_from_slice_get}
-use Rattle.dary_heap.proofs.Callers.{holds_none}
 use Rattle.dary_heap.specs.Walk.{Graph, HasEdge, IsWalk, cost_of, IsLeastCost, IsUnreached, HasCritical}
 use Rattle.dary_heap.specs.declared.shortest_path.Edge.{Edge}
 use Rattle.dary_heap_uses.specs.Routes.{IsRoute, miles_of, IsShortest, HasTooLong, along, IsRoad, IsMap}

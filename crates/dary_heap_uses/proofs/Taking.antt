@@ -1,11 +1,11 @@
 -- Timers that are taken one after another.
-use Rattle.std.proofs.Common.{◌≡◌, ℕ, suc, ◌+◌, ◌-◌, ◌<◌, ◌≤◌, List, [], ◌∷◌, ◌++◌, length, All, get_or, arith, refl, sym, ap, ◌∙◌, subst, append-nil, append_assoc}
+use Rattle.std.proofs.Common.{◌≡◌, ℕ, suc, ◌+◌, ◌-◌, ◌≤◌, List, [], ◌∷◌, ◌++◌, length, All, get_or, arith, refl, sym, ap, ◌∙◌, subst, append_assoc}
 use Rattle.std.specs.List.Sorted.{IsNonDecreasingBy}
-use Rattle.std.proofs.lemmas.List.Elements.{All-nil, All-push, All-tail, All-weaker, All-contains, All-get_or}
-use Rattle.std.proofs.lemmas.List.Sorted.{IsNonDecreasingBy-push, IsNonDecreasingBy-short, IsPermutation-refl, IsPermutation-trans, IsPermutation-append_right, All-permutation}
+use Rattle.std.proofs.lemmas.List.Elements.{All-push, All-tail, All-weaker, All-contains, All-get_or}
+use Rattle.std.proofs.lemmas.List.Sorted.{IsNonDecreasingBy-push, IsPermutation-trans, IsPermutation-append_right, All-permutation}
 use Rattle.dary_heap.specs.Bag.{IsSameBag}
 use Rattle.dary_heap.specs.Bounds.{pop_bound, pops_bound}
-use Rattle.dary_heap_uses.specs.Timers.{IsEarliest, AddsDue}
+use Rattle.dary_heap_uses.specs.Timers.{IsEarliest}
 use Rattle.dary_heap_uses.specs.declared.timers.Timer.{Timer}
 
 -- the pops of n items are one and those of what it leaves
