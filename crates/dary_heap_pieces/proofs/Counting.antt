@@ -80,8 +80,8 @@ pub total_counted : {start mid new : ℕ} (n m : ℕ) → m ≤ n - 1 → RisesW
 total_counted n m few first rest = total (n - 1) m (pop_bound 8 (2 * n)) (push_bound 8 (2 * n)) (pop_bound 8 (m + n)) (push_bound 8 (m + n)) (push_bound 8 n) few (pop_more (m + n) (2 * n) (omega (arith, few))) (push_more (m + n) (2 * n) (omega (arith, few))) (push_more n (2 * n) (omega arith)) first rest
 
 -- where a loop from 1 on ended
-pub ended : (place len : ℕ) → (1 ≤ len → place ≤ len) → place ≤ len + 1 → place - 1 ≤ len - 1
-ended place len end within = elim (cases_lt 0 len) [
+pub last_within : (place len : ℕ) → (1 ≤ len → place ≤ len) → place ≤ len + 1 → place - 1 ≤ len - 1
+last_within place len end within = elim (cases_lt 0 len) [
   | inl some ↦ (let here = end some in omega (arith, here))
   | inr none ↦ omega (arith, none, within)
 ]

@@ -26,18 +26,18 @@ from_word (x ∷ xs) (suc i) inside blank =
     ap (filter is_word) (slice_split-cons_yes is_blank x xs (blank 0 x (omega arith) (omega arith)))
     ∙ from_word xs i (omega (arith, inside)) (λ k d low high. blank (suc k) d (omega arith) (omega (arith, high)))
 
-pub kept : (word : List ℕ) (words : List (List ℕ)) → 0 < length word → filter is_word (word ∷ words) ≡ word ∷ filter is_word words
-kept word words some = ap (λ b. cond (not b) (word ∷ filter is_word words) (filter is_word words)) (ne_eqb (length word) 0 (λ e. omega (arith, some, e)))
+pub word_kept : (word : List ℕ) (words : List (List ℕ)) → 0 < length word → filter is_word (word ∷ words) ≡ word ∷ filter is_word words
+word_kept word words some = ap (λ b. cond (not b) (word ∷ filter is_word words) (filter is_word words)) (ne_eqb (length word) 0 (λ e. omega (arith, some, e)))
 
 -- a word ends at the first blank after it
 pub to_blank : (xs : List ℕ) (i : ℕ) → 0 < i → i < length xs → AllWithin (λ b. is_blank b ≡ false) xs 0 i → HoldsAt (λ b. is_blank b ≡ true) xs i → words_of xs ≡ take i xs ∷ words_of (drop (suc i) xs)
 to_blank xs i some inside before at =
     ap (filter is_word) (cut is_blank xs i inside before at)
-    ∙ kept (take i xs) (slice_split is_blank (drop (suc i) xs)) (omega (arith, some, length-take-le i xs (omega (arith, inside))))
+    ∙ word_kept (take i xs) (slice_split is_blank (drop (suc i) xs)) (omega (arith, some, length-take-le i xs (omega (arith, inside))))
 
 -- or at the end of the line
 pub to_end : (xs : List ℕ) → 0 < length xs → AllWithin (λ b. is_blank b ≡ false) xs 0 (length xs) → words_of xs ≡ xs ∷ words_of []
-to_end xs some before = ap (filter is_word) (uncut is_blank xs before) ∙ kept xs [] some
+to_end xs some before = ap (filter is_word) (uncut is_blank xs before) ∙ word_kept xs [] some
 
 later : (xs : List ℕ) (i : ℕ) → HoldsAt (λ b. is_blank b ≡ false) xs 0 → HoldsAt (λ b. is_blank b ≡ true) xs i → 0 < i
 later xs zero first at = absurd (true≢false (sym (at 0) ∙ first 0))

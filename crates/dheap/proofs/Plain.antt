@@ -12,7 +12,7 @@ use Rattle.std.proofs.lemmas.Str.Parse.{digit_at}
 use Rattle.dheap.specs.Script.{IsFirstLine, is_blank, lines_of, words_of}
 use Rattle.dheap.specs.Words.{IsNumber}
 use Rattle.dheap.specs.declared.serve.line.Line.TheVariants.{Push, Pop, Len, Test}
-use Rattle.dheap.proofs.Parting.{kept}
+use Rattle.dheap.proofs.Parting.{word_kept}
 
 -- a number holds nothing that parts lines or words
 module _ (p : ℕ → Bool) (plus : p 43 ≡ false) (minus : p 45 ≡ false) (digit : (c : ℕ) → IsInRange 48 57 c → p c ≡ false) where
@@ -49,7 +49,7 @@ module _ (word rest : List ℕ) (is : IsNumber word) where
   some (c ∷ cs) h = omega arith
 
   pub only_word : words_of word ≡ word ∷ []
-  only_word = ap (filter _) number_word ∙ kept word [] (some word is.0)
+  only_word = ap (filter _) number_word ∙ word_kept word [] (some word is.0)
 
 -- digits alone have no sign
 pub unsigned : (ds : List ℕ) → IsNumeral 10 ds → (starts_with_minus ds ≡ false) × (without_leading_plus ds ≡ ds)
@@ -75,8 +75,8 @@ four (w ∷ x ∷ y ∷ []) a b c d len e f g h = absurd (omega (arith, len))
 four (w ∷ x ∷ y ∷ z ∷ v ∷ vs) a b c d len e f g h = absurd (omega (arith, len))
 
 -- the first four bytes and the others
-pub begins : (script name after word : List ℕ) → (name ≡ take 4 script) × (after ≡ drop 4 script) × (length after + 4 ≡ length script) → name ≡ word → script ≡ word ++ after
-begins script name after word (first, later, _) named = sym (take-append-drop 4 script) ∙ ap (λ n. n ++ drop 4 script) (sym first ∙ named) ∙ ap (λ a. word ++ a) (sym later)
+pub script_begins : (script name after word : List ℕ) → (name ≡ take 4 script) × (after ≡ drop 4 script) × (length after + 4 ≡ length script) → name ≡ word → script ≡ word ++ after
+script_begins script name after word (first, later, _) named = sym (take-append-drop 4 script) ∙ ap (λ n. n ++ drop 4 script) (sym first ∙ named) ∙ ap (λ a. word ++ a) (sym later)
 
 -- the lines that have a number
 module _ (script after word rest : List ℕ) (n : ℤ) (ends : after ≡ 32 ∷ word ++ 10 ∷ rest) (is : IsNumber word) (value : n ≡ signed_digits_value 10 word) where

@@ -4,11 +4,11 @@ use Rattle.std.proofs.lemmas.List.Elements.{Contains-append_right}
 use Rattle.std.specs.List.{AllZip}
 
 -- a list of clones, each of which gives the same value
-pub same : {X : Type 0} (is_clone : X → X → Type 0) (xs ys : List X) → ((x y : X) → Contains xs x → is_clone x y → y ≡ x) → AllZip is_clone xs ys → ys ≡ xs
-same is_clone [] [] gives h = refl
-same is_clone [] (y ∷ ys) gives h = absurd h
-same is_clone (x ∷ xs) [] gives h = absurd h
-same is_clone (x ∷ xs) (y ∷ ys) gives h =
+pub clones_same : {X : Type 0} (is_clone : X → X → Type 0) (xs ys : List X) → ((x y : X) → Contains xs x → is_clone x y → y ≡ x) → AllZip is_clone xs ys → ys ≡ xs
+clones_same is_clone [] [] gives h = refl
+clones_same is_clone [] (y ∷ ys) gives h = absurd h
+clones_same is_clone (x ∷ xs) [] gives h = absurd h
+clones_same is_clone (x ∷ xs) (y ∷ ys) gives h =
     let first : y ≡ x = gives x y (0, omega arith, refl) h.0 in
-    let rest : ys ≡ xs = same is_clone xs ys (λ a b in'. gives a b (Contains-append_right (x ∷ []) xs a in')) h.1 in
+    let rest : ys ≡ xs = clones_same is_clone xs ys (λ a b in'. gives a b (Contains-append_right (x ∷ []) xs a in')) h.1 in
     cc

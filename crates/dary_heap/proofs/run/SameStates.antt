@@ -5,7 +5,7 @@ use Rattle.std.proofs.lemmas.List.Sorted.{IsPermutation-sym, IsPermutation-trans
 use Rattle.dary_heap.specs.Machine.{End, PutBack, TakeOut, Command, Reply, Push, Pop, PopIf, Ask, Len, Retain, Extend, Append, Reserve, Shrink, Clear, Drain, DrainSorted, Loan, Pushed, PushRefused, Popped, Asked, Size, Done, ExtendRefused, AppendRefused, Refused, Taken, Loaned, Ends, MayAnswer, Pops, PopsInTurn, Step}
 use Rattle.dary_heap.specs.State.{IsSameState, IsJoined, front_with}
 use Rattle.dary_heap.proofs.Fronts.{same_state}
-use Rattle.dary_heap.proofs.run.Serving.{empty}
+use Rattle.dary_heap.proofs.run.Serving.{nil_from_length}
 use Rattle.dary_heap.proofs.run.States.{IsState-same}
 
 module _ {X : Type 0} where
@@ -16,7 +16,7 @@ module _ {X : Type 0} where
   both xs ys zs h k = record { bag = IsPermutation-trans xs ys zs h.bag k.bag; first = k.first ∙ h.first }
 
   none : (xs ys : List X) → IsSameState xs ys → xs ≡ [] → ys ≡ []
-  none xs ys h e = empty ys (omega (arith, length_permutation xs ys h.bag, ap length e))
+  none xs ys h e = nil_from_length ys (omega (arith, length_permutation xs ys h.bag, ap length e))
 
   some : (xs ys : List X) → IsSameState xs ys → xs ≢ [] → ys ≢ []
   some xs ys h k e = k (none ys xs (turned xs ys h) e)

@@ -16,25 +16,25 @@ use Rattle.dary_heap.specs.Run.{IsServed, Serves, room, sure_after}
 use Rattle.dary_heap.specs.State.{front, front_with}
 use Rattle.dary_heap.proofs.Fronts.{alone, ordered_state, same_state}
 use Rattle.dary_heap.proofs.Order.{read}
-use Rattle.dary_heap.proofs.sift.Uncounted.{stays}
+use Rattle.dary_heap.proofs.sift.Uncounted.{none_counted}
 
 -- a list without items
-pub empty : {X : Type 0} (xs : List X) → length xs ≤ 0 → xs ≡ []
-empty [] h = refl
-empty (x ∷ xs) h = absurd (omega arith)
+pub nil_from_length : {X : Type 0} (xs : List X) → length xs ≤ 0 → xs ≡ []
+nil_from_length [] h = refl
+nil_from_length (x ∷ xs) h = absurd (omega arith)
 
 -- the items of a bag to which x was added
 added : {X : Type 0} (xs ys : List X) (x : X) → IsPermutation (x ∷ xs) ys → (y : X) → Contains ys y → Contains (xs ++ x ∷ []) y
 added xs ys x h y in' = Contains-permutation _ _ y (IsPermutation-sym _ _ (IsPermutation-trans _ _ _ (IsPermutation-to_front xs x) h)) in'
 
 -- the items of a bag from which m was taken
-pub rest : {X : Type 0} (xs ys : List X) (m : X) → IsPermutation xs (m ∷ ys) → (y : X) → Contains ys y → Contains (xs ++ []) y
-rest xs ys m h y in' = Contains-append_left xs [] y (Contains-permutation _ _ y (IsPermutation-sym _ _ h) (Contains-append_right (m ∷ []) ys y in'))
+pub rest_among : {X : Type 0} (xs ys : List X) (m : X) → IsPermutation xs (m ∷ ys) → (y : X) → Contains ys y → Contains (xs ++ []) y
+rest_among xs ys m h y in' = Contains-append_left xs [] y (Contains-permutation _ _ y (IsPermutation-sym _ _ h) (Contains-append_right (m ∷ []) ys y in'))
 
 module _ {X P : Type 0} {cmp : X → X → Ordering} {answers : P → X → Bool → P → Type 0} {D : ℕ} where
   -- a step after which the items are those before
-  pub kept : (old new : Contents X) (command : Command X P) (reply : Reply X) → new.items ≡ old.items → new.comparisons ≡ old.comparisons → IsHeapOrdered cmp D new.items → Step cmp answers old.items command reply old.items → IsServed (room old) command reply → sure_after (room old) command reply ≤ room new → Serves cmp answers D old command reply new
-  kept old new command reply same uncounted ordered step served sure = record {
+  pub serves_unchanged : (old new : Contents X) (command : Command X P) (reply : Reply X) → new.items ≡ old.items → new.comparisons ≡ old.comparisons → IsHeapOrdered cmp D new.items → Step cmp answers old.items command reply old.items → IsServed (room old) command reply → sure_after (room old) command reply ≤ room new → Serves cmp answers D old command reply new
+  serves_unchanged old new command reply same uncounted ordered step served sure = record {
     step = subst (Step cmp answers old.items command reply) (sym same) step;
     charged = record { rises = omega (arith, uncounted); within = omega (arith, uncounted) };
     served = served;
@@ -56,7 +56,7 @@ module _ {X P : Type 0} {cmp : X → X → Ordering} {answers : P → X → Bool
   pub push_refused : (old new : Contents X) (x y : X) → new ≡ old → y ≡ x → length old.items ≡ old.capacity → IsHeapOrdered cmp D new.items → Serves cmp answers D old (Push x) (PushRefused y) new
   push_refused old new x y same back full ordered = rw same record {
     step = (back, same_state _ _ refl);
-    charged = stays _ _;
+    charged = none_counted _ _;
     served = λ some. absurd (omega arith);
     sure = omega arith;
     ordered = subst (λ (it : Contents X). IsHeapOrdered cmp D it.items) same ordered;
@@ -65,10 +65,10 @@ module _ {X P : Type 0} {cmp : X → X → Ordering} {answers : P → X → Bool
 
   pub pops : IsTotalOrder cmp → (old new : Contents X) (r : Option X) → (IsSome r ↔ (0 < length old.items)) → r ≡ slice_get old.items 0 → IfSome r (λ m. IsPermutation old.items (m ∷ new.items)) → IsHeapOrdered cmp D new.items → RisesWithin old.comparisons new.comparisons (pop_bound D (length old.items)) → new.capacity ≡ old.capacity → IfNone r (new ≡ old) → Serves cmp answers D old Pop (Popped r) new
   pops total old new None variant first bag ordered charged same unchanged =
-      let none : old.items ≡ [] = elim (cases_lt 0 (length old.items)) [ inl some ↦ let given : false ≡ true = variant.1 some in cc | inr few ↦ empty old.items few ] in
+      let none : old.items ≡ [] = elim (cases_lt 0 (length old.items)) [ inl some ↦ let given : false ≡ true = variant.1 some in cc | inr few ↦ nil_from_length old.items few ] in
       rw unchanged record {
         step = (none, none);
-        charged = stays _ _;
+        charged = none_counted _ _;
         served = tt;
         sure = omega arith;
         ordered = subst (λ (it : Contents X). IsHeapOrdered cmp D it.items) unchanged ordered;
@@ -80,14 +80,14 @@ module _ {X P : Type 0} {cmp : X → X → Ordering} {answers : P → X → Bool
     served = tt;
     sure = omega (arith, length_permutation _ _ bag);
     ordered = ordered;
-    among = rest old.items new.items m bag;
+    among = rest_among old.items new.items m bag;
   }
 
   answered : (heap : Contents X) (p : P) (m : X) (answer : Bool) (after : P) → answers p m answer after → front heap.items ≡ Some m → IsHeapOrdered cmp D heap.items → Serves cmp answers D heap (Ask p) (Asked (Some answer)) heap
-  answered heap p m answer after told first ordered = kept heap heap (Ask p) (Asked (Some answer)) refl refl ordered ((m, first, (after, told)), same_state _ _ refl) tt (omega arith)
+  answered heap p m answer after told first ordered = serves_unchanged heap heap (Ask p) (Asked (Some answer)) refl refl ordered ((m, first, (after, told)), same_state _ _ refl) tt (omega arith)
 
   unasked : (heap : Contents X) (p : P) → heap.items ≡ [] → IsHeapOrdered cmp D heap.items → Serves cmp answers D heap (Ask p) (Asked None) heap
-  unasked heap p none ordered = kept heap heap (Ask p) (Asked None) refl refl ordered (none, none) tt (omega arith)
+  unasked heap p none ordered = serves_unchanged heap heap (Ask p) (Asked None) refl refl ordered (none, none) tt (omega arith)
 
 -- the one item of a list is among those that have it
 only : {X : Type 0} (items : List X) (x : X) → Contains items x → (y : X) → Contains (x ∷ []) y → Contains items y
@@ -114,5 +114,5 @@ module _ {X P : Type 0} (calls : Mut P (Bor X × Unit {0}) Bool) where
           let given = asked first.0 first.1 in
           let called = told p first.0 given.0 given.1 in
           rw given.2 (answered heap p first.0 given.0 called.0 called.1 first.1 ordered)
-      | inr few ↦ let gone = empty heap.items few in rw (none gone) (unasked heap p gone ordered)
+      | inr few ↦ let gone = nil_from_length heap.items few in rw (none gone) (unasked heap p gone ordered)
     ]

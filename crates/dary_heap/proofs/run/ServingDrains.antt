@@ -12,7 +12,7 @@ use Rattle.dary_heap.specs.Run.{Serves}
 use Rattle.dary_heap.proofs.Fronts.{ordered_state, same_state}
 use Rattle.dary_heap.proofs.Order.{none_ordered, read}
 use Rattle.dary_heap.proofs.iter.Popping.{pops_bound_step}
-use Rattle.dary_heap.proofs.run.Serving.{empty, kept}
+use Rattle.dary_heap.proofs.run.Serving.{nil_from_length, serves_unchanged}
 
 -- where some of the first k were wanted and there was no room for them, k is not 0 and there is an item
 wanted : {X : Type 0} (xs : List X) (k : ℕ) → (min k (length xs) ≡ 0 → ⊥) → (xs ≢ []) × (k ≢ 0)
@@ -61,10 +61,10 @@ popped_counted {D = D} old new x most pop h =
 
 module _ {X P : Type 0} {cmp : X → X → Ordering} {answers : P → X → Bool → P → Type 0} {D : ℕ} where
   pub drain_refused : (old : Contents X) (k : ℕ) → (min k (length old.items) ≡ 0 → ⊥) → IsHeapOrdered cmp D old.items → Serves cmp answers D old (Drain k) Refused old
-  drain_refused old k some ordered = let w = wanted old.items k some in kept old old (Drain k) Refused refl refl ordered (w.0, w.1, same_state _ _ refl) tt (omega arith)
+  drain_refused old k some ordered = let w = wanted old.items k some in serves_unchanged old old (Drain k) Refused refl refl ordered (w.0, w.1, same_state _ _ refl) tt (omega arith)
 
   pub sorted_refused : (old : Contents X) (k : ℕ) → (min k (length old.items) ≡ 0 → ⊥) → IsHeapOrdered cmp D old.items → Serves cmp answers D old (DrainSorted k) Refused old
-  sorted_refused old k some ordered = let w = wanted old.items k some in kept old old (DrainSorted k) Refused refl refl ordered (w.0, w.1, same_state _ _ refl) tt (omega arith)
+  sorted_refused old k some ordered = let w = wanted old.items k some in serves_unchanged old old (DrainSorted k) Refused refl refl ordered (w.0, w.1, same_state _ _ refl) tt (omega arith)
 
   pub drained : (old new : Contents X) (k : ℕ) (taken : List X) → taken ≡ take (min k (length old.items)) old.items → new.items ≡ [] → new.comparisons ≡ old.comparisons → Serves cmp answers D old (Drain k) (Taken taken) new
   drained old new k taken is none uncounted = record {
@@ -79,7 +79,7 @@ module _ {X P : Type 0} {cmp : X → X → Ordering} {answers : P → X → Bool
   -- what the iterator leaves behind its reference when it is dropped is what the heap is then
   pub drained_sorted : (old new end : Contents X) (k : ℕ) (taken left : List X) → new ≡ end → PopsThrough cmp old.items taken left → length taken ≡ min k (length old.items) → length taken + length left ≡ length old.items → end.items ≡ [] → RisesWithin old.comparisons end.comparisons (pops_bound D (length old.items)) → Serves cmp answers D old (DrainSorted k) (Taken taken) new
   drained_sorted old new end k taken left back through long all none counted = rw back record {
-    step = (PopsThrough-in_turn cmp k old.items taken left through (omega (arith, long)) (λ fewer. empty left (omega (arith, long, all))), none);
+    step = (PopsThrough-in_turn cmp k old.items taken left through (omega (arith, long)) (λ fewer. nil_from_length left (omega (arith, long, all))), none);
     charged = counted;
     served = tt;
     sure = omega arith;

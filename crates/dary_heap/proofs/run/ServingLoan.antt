@@ -19,7 +19,7 @@ use Rattle.dary_heap.proofs.Bags.{Contains-cases, Contains-first, Contains-later
 use Rattle.dary_heap.proofs.Cancelling.{IsPermutation-uncons}
 use Rattle.dary_heap.proofs.Depth.{times_depth-later}
 use Rattle.dary_heap.proofs.Fronts.{ordered_state, same_state}
-use Rattle.dary_heap.proofs.run.Serving.{empty, kept}
+use Rattle.dary_heap.proofs.run.Serving.{nil_from_length, serves_unchanged}
 use Rattle.dary_heap.proofs.run.States.{HasGreater-same_bag}
 
 module _ {X : Type 0} (cmp : X → X → Ordering) where
@@ -162,10 +162,10 @@ module _ {X : Type 0} (cmp : X → X → Ordering) (D : ℕ) where
 module _ {X P : Type 0} {cmp : X → X → Ordering} {answers : P → X → Bool → P → Type 0} {D : ℕ} where
   -- there is no item to lend
   pub loan_of_none : (old : Contents X) (acts : List (Act X)) (end : End) → length old.items ≡ 0 → IsHeapOrdered cmp D old.items → Serves cmp answers D old (Loan acts end) (Loaned None) old
-  loan_of_none old acts end none ordered = let is = empty old.items (omega (arith, none)) in kept old old (Loan acts end) (Loaned None) refl refl ordered (is, is) tt (omega arith)
+  loan_of_none old acts end none ordered = let is = nil_from_length old.items (omega (arith, none)) in serves_unchanged old old (Loan acts end) (Loaned None) refl refl ordered (is, is) tt (omega arith)
 
   pub loan_refused : (old : Contents X) (acts : List (Act X)) (end : End) → (length old.items ≡ 0 → ⊥) → (length acts ≡ 0 → ⊥) → IsHeapOrdered cmp D old.items → Serves cmp answers D old (Loan acts end) Refused old
-  loan_refused old acts end some wanted ordered = kept old old (Loan acts end) Refused refl refl ordered ((λ e. some (ap length e)), (λ e. wanted (ap length e)), same_state _ _ refl) tt (omega arith)
+  loan_refused old acts end some wanted ordered = serves_unchanged old old (Loan acts end) Refused refl refl ordered ((λ e. some (ap length e)), (λ e. wanted (ap length e)), same_state _ _ refl) tt (omega arith)
 
   -- what the loan leaves behind its reference is what the heap is then
   pub put_back : IsTotalOrder cmp → (old mid end new : Contents X) (acts : List (Act X)) (seen : List (Seen X)) → new ≡ end → IsLoan cmp D old mid end acts seen (sink_bound D (length mid.items)) → IsSameBag mid.items end.items → ((IsExceeded cmp mid.items → ⊥) → front end.items ≡ front mid.items) → Serves cmp answers D old (Loan acts PutBack) (Loaned (Some (seen, None))) new

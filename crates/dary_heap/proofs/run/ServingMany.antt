@@ -25,8 +25,8 @@ use Rattle.dary_heap.specs.State.{IsJoined, front}
 use Rattle.dary_heap.proofs.heap.Filtering.{few_picked}
 use Rattle.dary_heap.proofs.Fronts.{ordered_state, same_state}
 use Rattle.dary_heap.proofs.Order.{none_ordered, read}
-use Rattle.dary_heap.proofs.run.Serving.{Told, empty, rest, told}
-use Rattle.dary_heap.proofs.sift.Uncounted.{stays}
+use Rattle.dary_heap.proofs.run.Serving.{Told, nil_from_length, rest_among, told}
+use Rattle.dary_heap.proofs.sift.Uncounted.{none_counted}
 
 -- taking in fewer items costs no more
 fewer : (D n j k : ℕ) (b c : Bool) → (j == 0) ≡ b → (k == 0) ≡ c → j ≤ k → (if b then 0 else max (build_bound D n) (j * depth D (n - 1))) ≤ (if c then 0 else max (build_bound D n) (k * depth D (n - 1)))
@@ -124,7 +124,7 @@ module _ {X P : Type 0} {cmp : X → X → Ordering} {answers : P → X → Bool
   pub append_refused : (old new : Contents X) (other back : List X) → new ≡ old → back ≡ other → IsHeapOrdered cmp D new.items → Serves cmp answers D old (Append other) (AppendRefused back) new
   append_refused old new other back same returned ordered = rw same record {
     step = (same_state other back returned, same_state _ _ refl);
-    charged = stays _ _;
+    charged = none_counted _ _;
     served = tt;
     sure = omega arith;
     ordered = subst (λ (it : Contents X). IsHeapOrdered cmp D it.items) same ordered;
@@ -159,9 +159,9 @@ module _ {X P : Type 0} (calls : Mut P (Bor X × Unit {0}) Bool) (once : (p : P)
               let first = read old.items 0 some in
               let answer = asked first.0 first.1 in
               inr ((first.0, first.1, told_no p first.0 answer.0 answer.1 answer.2), same_state _ _ refl)
-          | inr few ↦ inl (empty old.items few, empty old.items few)
+          | inr few ↦ inl (nil_from_length old.items few, nil_from_length old.items few)
         ];
-        charged = stays _ _;
+        charged = none_counted _ _;
         served = tt;
         sure = omega arith;
         ordered = still;
@@ -176,5 +176,5 @@ module _ {X P : Type 0} (calls : Mut P (Bor X × Unit {0}) Bool) (once : (p : P)
         served = tt;
         sure = omega (arith, length_permutation _ _ bag);
         ordered = ordered;
-        among = rest old.items new.items m bag;
+        among = rest_among old.items new.items m bag;
       }

@@ -69,8 +69,8 @@ module _ {limit : ℕ} {g : Graph} {start goal : ℕ} where
   }
 
   -- the search as it begins: no cost is found, and then 0 for the start, whose state alone waits
-  pub begins : {nothing : List ℕ} {before waiting : List State} (n : ℕ) → 0 < limit → n ≡ length g → start < n → nothing ≡ replicate n limit → before ≡ [] → IsSameBag (state 0 start ∷ before) waiting → IsSearch limit g start goal (set nothing start 0) waiting
-  begins {nothing} {before} {waiting} n positive many near all empty bag =
+  pub search_begins : {nothing : List ℕ} {before waiting : List State} (n : ℕ) → 0 < limit → n ≡ length g → start < n → nothing ≡ replicate n limit → before ≡ [] → IsSameBag (state 0 start ∷ before) waiting → IsSearch limit g start goal (set nothing start 0) waiting
+  search_begins {nothing} {before} {waiting} n positive many near all empty bag =
       let long : length nothing ≡ n = ap length all ∙ length-replicate n limit in
       at_start
       (set nothing start 0) waiting positive (omega (arith, length-set nothing start 0)) (length-set nothing start 0 ∙ (long ∙ many))

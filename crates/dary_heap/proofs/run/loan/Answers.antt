@@ -9,7 +9,7 @@ use Rattle.dary_heap.specs.HeapOrder.{IsHeapOrdered}
 use Rattle.dary_heap.specs.Machine as machine
 use Rattle.dary_heap.specs.PeekMut.{loaned}
 use Rattle.dary_heap.specs.Reading as read
-use Rattle.dary_heap.proofs.run.Serving.{empty}
+use Rattle.dary_heap.proofs.run.Serving.{nil_from_length}
 use Rattle.dary_heap.proofs.run.ServingLoan.{IsActed, IsActed-begins, IsActed-write, IsActed-refresh, IsLoan, cost-write, cost-refresh, loan_of_none, loan_refused, put_back, taken_out}
 use Rattle.dary_heap.proofs.run.loan.Goals as goal
 use Rattle.dary_heap.proofs.run.loan.Given.{Over}
@@ -112,7 +112,7 @@ loan g c end last_cost ended ordered =
     let before = c.loop-act.invariant in
     let mid = loaned c.loop-act.loan in
     let begun : loaned c.unwrap-loan.result ≡ c.args.heap.now = rw c.unwrap-loan.ensures at c.peek_mut.ensures.loaned in
-    let rest : into_iter_items c.loop-act.act-iterator ≡ [] = empty _ (omega (arith, c.in-None.ensures.steps.0, before.left)) in
+    let rest : into_iter_items c.loop-act.act-iterator ≡ [] = nil_from_length _ (omega (arith, c.in-None.ensures.steps.0, before.left)) in
     let all : c.args.acts.items ≡ c.loop-act.yielded = before.split ∙ ap (λ xs. c.loop-act.yielded ++ xs) rest ∙ append-nil c.loop-act.yielded in
     rw all record {
       acted = subst (λ (it : Contents g.row.T.Denot). IsActed g.T.Ord.cmp it.items (read.acts c.loop-act.yielded) (read.sights c.loop-act.seen.items) mid.items) begun before.acted;

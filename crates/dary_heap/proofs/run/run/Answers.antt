@@ -7,7 +7,7 @@ use Rattle.dary_heap.specs.Reading as read
 use Rattle.dary_heap.proofs.run.Asking.{callable_one, items_of_one}
 use Rattle.dary_heap.proofs.Fronts.{ordered_state}
 use Rattle.dary_heap.proofs.run.Runs.{Runs-begins, Runs-more}
-use Rattle.dary_heap.proofs.run.Serving.{empty}
+use Rattle.dary_heap.proofs.run.Serving.{nil_from_length}
 use Rattle.dary_heap.proofs.run.run.Goals as goal
 
 -- what was read of a list of commands, where one of them stands
@@ -65,6 +65,6 @@ loop-command-preserved g c =
 pub returns-clause-runs : goal.returns-clause-runs
 returns-clause-runs g c =
     let before = c.loop-command.invariant in
-    let rest : into_iter_items c.loop-command.command-iterator ≡ [] = empty _ (omega (arith, c.in-None.ensures.steps.0, before.left)) in
+    let rest : into_iter_items c.loop-command.command-iterator ≡ [] = nil_from_length _ (omega (arith, c.in-None.ensures.steps.0, before.left)) in
     let all : c.args.commands.items ≡ c.loop-command.yielded = before.split ∙ ap (λ xs. c.loop-command.yielded ++ xs) rest ∙ append-nil c.loop-command.yielded in
     rw all before.runs

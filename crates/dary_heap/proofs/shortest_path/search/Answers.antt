@@ -11,8 +11,8 @@ use Rattle.dary_heap.specs.declared.shortest_path.Edge.{Edge}
 use Rattle.dary_heap.specs.declared.shortest_path.State.{State}
 use Rattle.dary_heap.specs.Walk.{Graph}
 use Rattle.dary_heap.proofs.shortest_path.Examining.{AreOnce, all_examined, charged_ends, last_examined, none_examined, once_few, distinct_node, IsCharged, charged_begins, charged_long, charged_pop, charged_push, all_edges_more, edges_at, once_begins, once_more, once_skips}
-use Rattle.dary_heap.proofs.shortest_path.Searching.{IsSearch, taken, found_least, found_uncritical, none_reached, none_uncritical, too_large, after_skip, after_examining, begins}
-use Rattle.dary_heap.proofs.sift.Uncounted.{stays}
+use Rattle.dary_heap.proofs.shortest_path.Searching.{IsSearch, taken, found_least, found_uncritical, none_reached, none_uncritical, too_large, after_skip, after_examining, search_begins}
+use Rattle.dary_heap.proofs.sift.Uncounted.{none_counted}
 use Rattle.dary_heap.proofs.shortest_path.search.Goals.{In_default-pop, In_err-relax}
 use Rattle.dary_heap.proofs.shortest_path.search.Goals as goal
 
@@ -21,7 +21,7 @@ index_mut-requires c = omega (arith, c.requires.start, c.in-Ok.ensures.len, c.le
 
 pub loop-cost-init : goal.loop-cost-init
 loop-cost-init c =
-    let found : IsSearch 18446744073709551615 c.args.adj_list.now.items c.args.start c.args.goal (slice_set c.in-Ok.found.items c.args.start 0) c.push.new.self.items = begins c.len.result (lit< tt) (omega (arith, c.args.adj_list.now.ok.0)) (omega (arith, c.requires.start)) (c.in-Ok.ensures.items_if_clones_equal (λ y h. h)) c.requires.empty c.in-Ok-push.ensures.bag in
+    let found : IsSearch 18446744073709551615 c.args.adj_list.now.items c.args.start c.args.goal (slice_set c.in-Ok.found.items c.args.start 0) c.push.new.self.items = search_begins c.len.result (lit< tt) (omega (arith, c.args.adj_list.now.ok.0)) (omega (arith, c.requires.start)) (c.in-Ok.ensures.items_if_clones_equal (λ y h. h)) c.requires.empty c.in-Ok-push.ensures.bag in
     let unexamined = c.add_push.ensures.examined ∙ c.requires.unexamined in
     let none : 0 ≡ length c.add_push.new.self.examined = sym (ap length unexamined) in
     record {
@@ -124,7 +124,7 @@ pub returns-in_default-clause-few : goal.returns-in_default-clause-few
 returns-in_default-clause-few c = omega (arith, ap length c.requires.empty)
 
 pub returns-in_default-clause-counted : goal.returns-in_default-clause-counted
-returns-in_default-clause-counted c = stays _ _
+returns-in_default-clause-counted c = none_counted _ _
 
 pub returns-in_default-push-clause-least : goal.returns-in_default-push-clause-least
 returns-in_default-push-clause-least c = tt
@@ -148,7 +148,7 @@ pub returns-in_default-push-clause-few : goal.returns-in_default-push-clause-few
 returns-in_default-push-clause-few c = omega (arith, c.in_default-push.ensures.len, ap length c.requires.empty)
 
 pub returns-in_default-push-clause-counted : goal.returns-in_default-push-clause-counted
-returns-in_default-push-clause-counted c = rw c.in_default-push.ensures.unchanged (stays _ _)
+returns-in_default-push-clause-counted c = rw c.in_default-push.ensures.unchanged (none_counted _ _)
 
 pub returns-then-position-goal-clause-unreached : goal.returns-then-position-goal-clause-unreached
 returns-then-position-goal-clause-unreached c = tt

@@ -2,7 +2,7 @@ use Rattle.std.proofs.Common.{◌≡◌, ◌↔◌, ◌<◌, List, [], ◌∷◌
 use Rattle.dary_heap.specs.Bounds.{RisesWithin, pop_bound}
 use Rattle.dary_heap.proofs.sift.BelowRoot.{below_root}
 use Rattle.dary_heap.proofs.Bounded.{popped_bound}
-use Rattle.dary_heap.proofs.Order.{popped}
+use Rattle.dary_heap.proofs.Order.{popped_is_greatest}
 use Rattle.dary_heap.proofs.heap.DaryHeap.pop.Goals as goal
 
 first_of : {X : Type 0} (r : Option X) (xs : List X) → (IsSome r ↔ (0 < length xs)) → IfSome r (λ item. slice_get xs 0 ≡ Some item) → r ≡ slice_get xs 0
@@ -27,7 +27,7 @@ pub returns-clause-first : goal.returns-clause-first
 returns-clause-first g c = rw (← c.self.view_is) (first_of c.pop_with.result _ (subst (λ n. IsSome c.pop_with.result ↔ (0 < n)) (long g c) c.pop_with.ensures.variant) c.pop_with.ensures.first)
 
 pub returns-clause-greatest : goal.returns-clause-greatest
-returns-clause-greatest g c = rw (← c.self.view_is) (popped g.met.T.Ord.total g.row.D _ c.self.invariant c.pop_with.result c.pop_with.ensures.first)
+returns-clause-greatest g c = rw (← c.self.view_is) (popped_is_greatest g.met.T.Ord.total g.row.D _ c.self.invariant c.pop_with.result c.pop_with.ensures.first)
 
 pub returns-clause-bag : goal.returns-clause-bag
 returns-clause-bag g c = rw (← c.self.view_is) c.pop_with.ensures.bag

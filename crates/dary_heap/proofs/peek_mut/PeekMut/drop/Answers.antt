@@ -2,7 +2,7 @@ use Rattle.std.proofs.lemmas.List.Sorted.{IsPermutation-refl, length_permutation
 use Rattle.std.proofs.Common.{rules, ◌≡◌, refl, ap, ◌∙◌, length}
 use Rattle.dary_heap.specs.State.{front}
 use Rattle.dary_heap.proofs.peek_mut.Loans.{lone_uncounted, lone_unexceeded, sunk_unmoved}
-use Rattle.dary_heap.proofs.sift.Uncounted.{stays}
+use Rattle.dary_heap.proofs.sift.Uncounted.{none_counted}
 use Rattle.dary_heap.proofs.sift.Written.{same_contents, written_back}
 use Rattle.dary_heap.proofs.peek_mut.PeekMut.drop.Goals as goal
 use Rattle.dary_heap.proofs.peek_mut.PeekMut.drop.Goals.{then-written, else-written}
@@ -63,13 +63,13 @@ returns-clause-bag g c = rw c.swap.ensures.x_after (elim c.if-written.branch [
 pub returns-clause-counted : goal.returns-clause-counted
 returns-clause-counted g c = rw (← c.heap.view_is) (elim c.if-written.branch [
   | then-written w ↦ rw w.heap-inside-is (rw (w.as_mut_slice.ensures.value, c.into_vec-items.ensures.items) at w.sink_with.ensures.counted)
-  | else-written w ↦ rw w.heap-inside-is (stays _ _)
+  | else-written w ↦ rw w.heap-inside-is (none_counted _ _)
 ])
 
 pub returns-clause-tight : goal.returns-clause-tight
 returns-clause-tight g c = rw (← c.heap.view_is) (elim c.if-written.branch [
   | then-written w ↦ rw w.heap-inside-is (rw (w.as_mut_slice.ensures.value, c.into_vec-items.ensures.items) at w.sink_with.ensures.tight)
-  | else-written w ↦ rw w.heap-inside-is (stays _ _)
+  | else-written w ↦ rw w.heap-inside-is (none_counted _ _)
 ])
 
 pub returns-clause-len : goal.returns-clause-len

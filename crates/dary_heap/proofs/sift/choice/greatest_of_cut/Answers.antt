@@ -2,7 +2,7 @@ use Rattle.std.proofs.Common.{◌≡◌, ◌+◌, ◌*◌, ◌<◌, ap, refl, ar
 use Rattle.dary_heap.specs.Choosing.{Chooses}
 use Rattle.dary_heap.proofs.sift.Choosing.{cut_row}
 use Rattle.dary_heap.proofs.Place.{no_whole_row}
-use Rattle.dary_heap.proofs.sift.Row.{begins}
+use Rattle.dary_heap.proofs.sift.Row.{greatest_of_one}
 use Rattle.dary_heap.proofs.sift.choice.greatest_of_cut.Goals as goal
 
 pub returns-in-2 : goal.returns-in-2
@@ -20,5 +20,5 @@ returns-then-this-le2 g c =
     let rows = ap (λ a. c.args.at * a) c.max-arity.ensures in
     let there : first < c.args.len = omega (arith, c.if-count-eq0.false, c.if-len-arity.false) in
     let alone : first + 1 ≡ c.args.len = omega (arith, there, rows, no_whole_row g.row.D c.args.at c.args.len c.requires.cut, c.if-this-le2.true) in
-    let chosen : Chooses g.J.Judge.order first (first + 1) first c.args.hole.now.items (g.J.Judge.count c.args.judge.now) (g.J.Judge.count c.args.judge.now) = record { greatest = begins g.J.Judge.order first c.args.hole.now.items; counted = omega arith } in
+    let chosen : Chooses g.J.Judge.order first (first + 1) first c.args.hole.now.items (g.J.Judge.count c.args.judge.now) (g.J.Judge.count c.args.judge.now) = record { greatest = greatest_of_one g.J.Judge.order first c.args.hole.now.items; counted = omega arith } in
     cut_row g.met.J.Judge.total g.row.D c.args.at c.args.len c.max-arity.result c.args.hole.now c.requires.here c.max-arity.ensures _ _ _ _ c.requires.cut alone there chosen

@@ -1,8 +1,8 @@
 use Rattle.std.proofs.Common.{◌∙◌}
-use Rattle.dary_heap.proofs.heap.Cloning.{same}
+use Rattle.dary_heap.proofs.heap.Cloning.{clones_same}
 use Rattle.dary_heap.proofs.iter.owned.IntoIter.clone.Goals as goal
 
 pub returns : goal.returns
 returns g c =
     let asked = rw (← c.self.view_is) at c.requires in
-    same g.T.Clone.is_clone _ _ asked c.in_ok-rest.ensures.cases.0 ∙ c.self.view_is
+    clones_same g.T.Clone.is_clone _ _ asked c.in_ok-rest.ensures.cases.0 ∙ c.self.view_is

@@ -4,7 +4,7 @@ use Rattle.std.proofs.lemmas.List.Sorted.{IsPermutation-refl, length_permutation
 use Rattle.dary_heap.proofs.sift.BelowRoot.{below_root}
 use Rattle.dary_heap.proofs.Fronts.{ordered_state}
 use Rattle.dary_heap.proofs.peek_mut.Loans.{lone_uncounted, lone_unexceeded, none_exceeds, sunk_moved, sunk_unmoved}
-use Rattle.dary_heap.proofs.sift.Uncounted.{stays}
+use Rattle.dary_heap.proofs.sift.Uncounted.{none_counted}
 use Rattle.dary_heap.proofs.sift.Written.{same_contents, written_back}
 use Rattle.dary_heap.proofs.peek_mut.methods.PeekMut+T+D.refresh.Goals as goal
 
@@ -18,10 +18,10 @@ returns-then-not-self g c =
       greatest = ordered_state g.met.T.Ord.total g.row.D _ ordered;
       ordered = ordered;
       settled = search rules;
-      counted = stays _ _;
+      counted = none_counted _ _;
       capacity = refl;
       same_reference = refl;
-      tight = stays _ _;
+      tight = none_counted _ _;
       unmoved = refl;
       unwritten = λ same. refl;
       alone = λ one. refl;

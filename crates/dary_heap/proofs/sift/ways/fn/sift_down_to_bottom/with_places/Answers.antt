@@ -2,14 +2,14 @@ use Rattle.std.proofs.Common.{◌≡◌, List, length, subst, ap, ◌∙◌}
 use Rattle.std.proofs.lemmas.List.Sorted.{length_permutation}
 use Rattle.dary_heap.specs.Hole.{filled}
 use Rattle.dary_heap.specs.Moving.{SiftsToBottom}
-use Rattle.dary_heap.proofs.hole.Holes.{taken}
+use Rattle.dary_heap.proofs.hole.Holes.{refilled}
 use Rattle.dary_heap.proofs.sift.ways.fn.sift_down_to_bottom.with_places.Goals as goal
 use Rattle.dary_heap.proofs.sift.ways.fn.sift_down_to_bottom.with_places.Goals.{then-guesses, else-guesses}
 
 pub returns : goal.returns
 returns g c =
     let hole = c.take-hole.ensures in
-    let whole = taken c.args.places.items c.take-hole.result.0 _ _ hole.items hole.at hole.taken in
+    let whole = refilled c.args.places.items c.take-hole.result.0 _ _ hole.items hole.at hole.taken in
     let either : (c.if-guesses.places.ptr ≡ c.take-hole.result.0.ptr) × SiftsToBottom g.J.Judge.order g.row.D (filled c.take-hole.result.0 c.take-hole.result.1) c.if-guesses.places.items (g.J.Judge.count c.args.judge.now) (g.J.Judge.count c.if-guesses.judge) =
     elim c.if-guesses.branch [
       | then-guesses w ↦ let done = w.sift_hole_to_bottom_by_guesses-places.ensures in rw (w.places-is, w.judge-is) (done.slice, done.sifted)
