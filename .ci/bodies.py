@@ -21,7 +21,9 @@ class Body:
         if lacking or not self.breaks():
             return f"it has no line '{[*lacking, 'breaks'][0]}:', or one without a clause"
         is_sound = self.pairs and all(re.match(r"(src|specs|proofs)/(?!.*\.\.)", file) and old for file, old, _ in self.pairs)
-        return None if is_sound else "it has no 'old:' and 'new:', or some for no 'file:' below src, specs or proofs"
+        if not is_sound:
+            return "it has no 'old:' and 'new:', or some for no 'file:' below src, specs or proofs"
+        return self.edited(TOP / "crates" / self.crate)[1]
 
     def functions(self):
         """Returns the function that it turns, and the callers that may have to refuse it."""
@@ -37,22 +39,27 @@ class Body:
         own, crate = last(self.says["turns"]), TOP / "crates" / self.crate
         return all(own in (file.split("/") if file.startswith("proofs/") else [holder(crate / file, old)]) for file, old, _ in self.pairs)
 
-    def edit(self, folder):
-        """Makes its edits in a copy of the crate, whose files may be links to others, or none and returns why not."""
-        texts, gone = {}, [self.says["without"]] if "without" in self.says else []
-        for file in [*gone, *[file for file, _, _ in self.pairs]]:
+    def edited(self, folder):
+        """Returns the new texts of the files of a crate that it edits, or none and why it can't."""
+        texts = {}
+        for file in [*filter(None, [self.says.get("without")]), *[file for file, _, _ in self.pairs]]:
             if not (folder / file).is_file():
-                return f"there is no file {file}"
+                return {}, f"there is no file {file}"
         for file, old, new in self.pairs:
             text = texts.get(file) or (folder / file).read_text(encoding="utf-8")
             if text.count(old) != 1:
-                return f"{file} has the text of an 'old:' {text.count(old)} times, and not once: {old.strip()}"
+                return {}, f"{file} has the text of an 'old:' {text.count(old)} times, and not once: {old.strip()}"
             texts[file] = text.replace(old, new)
-        for file in {*texts, *gone}:
+        return texts, None
+
+    def edit(self, folder):
+        """Makes its edits in a copy of the crate, whose files may be links to others, or none and returns why not."""
+        texts, fault = self.edited(folder)
+        for file in () if fault else {*texts, *filter(None, [self.says.get("without")])}:
             (folder / file).unlink()
         for file, text in texts.items():
             (folder / file).write_text(text, encoding="utf-8")
-        return None
+        return fault
 
 
 def last(function):
