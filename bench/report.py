@@ -1,8 +1,9 @@
 #!/usr/bin/env python3
 """Makes the tables and the pictures of the program's lines. It needs matplotlib.
 
-usage: report.py LINES SPEED.md FOLDER
+usage: report.py LINES.. SPEED.md FOLDER
 
+Of several runs, as of builds whose code lies elsewhere, it takes the least time of each heap.
 Fills what stands between the marks '<!-- NAME -->' and '<!-- end of NAME -->' of SPEED.md, for the
 names in BLOCKS, writes pop.svg and speed.svg into the folder, and prints the table of README.
 """
@@ -66,7 +67,15 @@ class Line:
 
     def over(self, who):
         """This heap's time over that of another."""
-        return self.cells[f"over_{who}"]
+        here, other = self.time("here"), self.time(who)
+        return None if here is None or other is None else here / other
+
+    def take(self, other):
+        """Takes the times of another run that are less."""
+        for head in self.cells:
+            times = [time for time in (self.cells[head], other.cells[head]) if time is not None]
+            if head.endswith("_ns") and times:
+                self.cells[head] = min(times)
 
     def time(self, who):
         """The nanoseconds of an item."""
@@ -87,6 +96,16 @@ def lines_of(path):
     heads, *rows = [text.split() for text in texts if not text.startswith("#")]
     lines = [Line(heads, row) for row in rows if row != heads]
     return {(line.workload, line.items, line.arity): line for line in lines}, left_out
+
+
+def least_of(paths):
+    """The lines of runs with the least times, and what one of them left out."""
+    (lines, left_out), *others = map(lines_of, paths)
+    for more, also in others:
+        left_out += [it for it in also if it not in left_out]
+        for key in lines.keys() & more.keys():
+            lines[key].take(more[key])
+    return lines, left_out
 
 
 def mean(numbers):
@@ -371,15 +390,16 @@ def arity_picture(lines):
 
 
 def main():
-    if len(sys.argv) != 4:
+    if len(sys.argv) < 4:
         sys.exit(__doc__)
-    lines, left_out = lines_of(sys.argv[1])
-    fill(sys.argv[2], lines, left_out)
+    *paths, speed, folder = sys.argv[1:]
+    lines, left_out = least_of(paths)
+    fill(speed, lines, left_out)
     with plt.rc_context(STYLE):
         for name, draw in {"pop.svg": pop_picture, "speed.svg": arity_picture}.items():
             picture = io.StringIO()
             draw(lines).savefig(picture, format="svg", transparent=True, bbox_inches="tight", metadata={"Date": None})
-            with open(f"{sys.argv[3]}/{name}", "w", encoding="utf-8") as file:
+            with open(f"{folder}/{name}", "w", encoding="utf-8") as file:
                 # Its lines carry nothing.
                 file.write(" ".join(picture.getvalue().split()) + "\n")
     print(of_readme(lines))

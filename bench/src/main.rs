@@ -23,6 +23,15 @@ use std::env;
 use std::process::ExitCode;
 use workload::{Call, Kind, Task, Workload, SEARCH, SEARCH_SIZES, WORKLOADS};
 
+// Stands before the code of all heaps and moves it: README.md says why.
+#[cfg(is_shifted)]
+std::arch::global_asm!(
+    ".section .text.shift, \"axR\", @progbits",
+    ".balign 16",
+    ".skip 16",
+    ".text"
+);
+
 fn main() -> ExitCode {
     let Some(wanted) = arguments::read(env::args().skip(1)) else {
         eprintln!("{}", arguments::USAGE);
