@@ -300,6 +300,7 @@ impl<T: Ord, const D: usize> DaryHeap<T, D> {
     /// # Time
     ///
     /// At most as many comparisons as the new place is deep, which is *O*(log *n*) from arity 2 on.
+    #[inline]
     pub fn push(&mut self, item: T) -> Result<(), T>
         ensures bag { OnOk result (IsSameBag (item ∷ self.old.items) self.new.items) }
         ensures first { OnOk result (front self.new.items ≡ Some (front_with T.cmp item (front self.old.items))) }
