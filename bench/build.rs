@@ -3,8 +3,7 @@
 //! where the two lie.
 //!
 //! `src/rivals.cpp` is compiled if there is a C++ compiler, which `CXX` may name. `CXXSTDLIB` names its
-//! library if that isn't the usual one. If `SHIFT` is set, it moves the program's code by 16 bytes: on some
-//! processors a loop takes up to a third longer if a branch of it lies across a border of 32 bytes.
+//! library if that isn't the usual one. `SHIFT` moves the program's code, as README.md says.
 
 use std::env;
 use std::path::{Path, PathBuf};
