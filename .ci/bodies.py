@@ -20,8 +20,7 @@ class Body:
         lacking = [word for word in NEEDED if not self.says.get(word)]
         if lacking or not self.breaks():
             return f"it has no line '{[*lacking, 'breaks'][0]}:', or one without a clause"
-        is_sound = self.pairs and all(re.match(r"(src|specs|proofs)/(?!.*\.\.)", file) and old for file, old, _ in self.pairs)
-        if not is_sound:
+        if not self.pairs or not all(old and re.match(r"(src|specs|proofs)/(?!.*\.\.)", file) for file, old, _ in self.pairs):
             return "it has no 'old:' and 'new:', or some for no 'file:' below src, specs or proofs"
         return self.edited(TOP / "crates" / self.crate)[1]
 
@@ -73,19 +72,17 @@ def holder(path, text):
 
 
 def read(path):
-    body, file, old = Body(path.parent.parent.name, path.stem), "", ""
+    body, pair = Body(path.parent.parent.name, path.stem), {"file": "", "old": ""}
     for line in path.read_text(encoding="utf-8").splitlines():
         word, _, text = line.partition(":")
         text = text.removeprefix(" ")
         if word in (*NEEDED, "callers", "without"):
             body.says[word] = text.strip()
-        elif word == "file":
-            file = text.strip()
-        elif word == "old":
-            old = text
+        elif word in pair:
+            pair[word] = text
         elif word == "new":
-            body.pairs.append((file, old, text))
-            old = ""
+            body.pairs.append((pair["file"].strip(), pair["old"], text))
+            pair["old"] = ""
     return body
 
 

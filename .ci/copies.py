@@ -3,8 +3,8 @@ import contextlib
 import itertools
 import re
 import shutil
-import subprocess
 from concurrent.futures import ThreadPoolExecutor
+from subprocess import DEVNULL, PIPE, STDOUT, run
 
 from bodies import TOP
 
@@ -13,8 +13,7 @@ PARTS = ("src", "specs", "proofs")
 
 def rt(folder, *words):
     """Runs a command of `rt`, and returns its status and what it said."""
-    how = {"stdin": subprocess.DEVNULL, "stdout": subprocess.PIPE, "stderr": subprocess.STDOUT}
-    ran = subprocess.run(["rt", *words], cwd=folder, encoding="utf-8", errors="replace", **how)
+    ran = run(["rt", *words], cwd=folder, encoding="utf-8", errors="replace", stdin=DEVNULL, stdout=PIPE, stderr=STDOUT)
     return ran.returncode, ran.stdout.splitlines()
 
 
@@ -66,7 +65,7 @@ class Copies:
         room, crates = self.rooms / f"{crate} {name}", with_libraries(crate)
         try:
             begin(room, crates)
-            subprocess.run(["cp", "-al", *[self.tree / "crates" / it for it in crates], room / "crates"], check=True)
+            run(["cp", "-al", *[self.tree / "crates" / it for it in crates], room / "crates"], check=True)
             yield room / "crates" / crate
         finally:
             shutil.rmtree(room, ignore_errors=True)

@@ -1,7 +1,8 @@
 //! Needs that std's `BinaryHeap` serves as well, as a caller of this heap meets them.
 ghost use Rattle.std.specs.BinaryHeap.{IsHeap, heap_items};
-ghost use Rattle.std.specs.Prelude.{◌≡◌, ◌+◌, ◌-◌, ◌<◌, ◌≤◌, ◌↔◌, [], ◌∷◌, ℕ, All, length, slice_get, vec_len, Some, IsOk, IsSome, IfSome, IfOk, OnOk, OnErr};
+ghost use Rattle.std.specs.Prelude.{◌≡◌, ◌+◌, ◌-◌, ◌<◌, ◌≤◌, ◌↔◌, [], ◌∷◌, ◌++◌, nat_lt, All, count_by, length, vec_len, IsOk, IsSome, IfSome, IfNone, IfOk, OnOk, OnErr};
 ghost use Rattle.dary_heap.specs.Bag.{IsSameBag};
+ghost use Rattle.dary_heap_uses.specs.FromStd.{NoneHigher, up_to, Falls, IsLead, IsRange, prices_at, IsAddedAt, IsKeptElsewhere};
 
 use dary_heap::{BinaryHeap, DaryHeap};
 use std::alloc::{AllocError, Global};
@@ -19,15 +20,20 @@ pub fn add_price(prices: &mut BinaryHeap<u32>, price: u32) -> Result<(), AllocEr
 
 /// Takes the highest price out. No price that stays is higher.
 pub fn highest(prices: &mut BinaryHeap<u32>) -> Option<u32>
-    ensures { IfSome result (λ price. All (λ other. other ≤ price) prices.new.items) }
+    ensures some { IsSome result ↔ (0 < length prices.old.items) }
+    ensures bag { IfSome result (λ price. IsSameBag prices.old.items (price ∷ prices.new.items)) }
+    ensures unchanged { IfNone result (prices.new ≡ prices.old) }
+    ensures below { IfSome result (λ price. NoneHigher price prices.new.items) }
 {
     prices.pop()
 }
 
 /// Takes the two highest prices out and returns by how much the first exceeds the second, or `None` if there
-/// were fewer than two.
+/// were fewer than two. A single price is taken out too.
 pub fn lead(prices: &mut BinaryHeap<u32>) -> Option<u32>
-    ensures { length prices.new.items ≡ length prices.old.items - 2 }
+    ensures some { IsSome result ↔ (2 ≤ length prices.old.items) }
+    ensures lead { IfSome result (λ lead. IsLead prices.old.items lead prices.new.items) }
+    ensures len { length prices.new.items ≡ length prices.old.items - 2 }
 {
     let first = prices.pop()?;
     let second = prices.pop()?;
@@ -36,15 +42,20 @@ pub fn lead(prices: &mut BinaryHeap<u32>) -> Option<u32>
 
 /// Takes the highest price out if it is at least the bound. No price was higher, and none that stays is.
 pub fn highest_from(prices: &mut BinaryHeap<u32>, bound: u32) -> Option<u32>
-    ensures above_all { IfSome result (λ price. All (λ other. other ≤ price) prices.old.items) }
-    ensures below { IfSome result (λ price. All (λ other. other ≤ price) prices.new.items) }
+    ensures above_all { IfSome result (λ price. NoneHigher price prices.old.items) }
+    ensures below { IfSome result (λ price. NoneHigher price prices.new.items) }
+    ensures bag { IfSome result (λ price. IsSameBag prices.old.items (price ∷ prices.new.items)) }
+    ensures reached { IfSome result (λ price. bound ≤ price) }
+    ensures none { IfNone result (All (λ price. price < bound) prices.old.items) }
+    ensures unchanged { IfNone result (prices.new ≡ prices.old) }
 {
     prices.pop_if(|price| bound <= *price)
 }
 
 /// Returns the lowest price and the highest, or `None` if there is none.
 pub fn range(prices: Vec<u32>) -> Option<(u32, u32)>
-    ensures { IsSome result ↔ (0 < vec_len prices) }
+    ensures some { IsSome result ↔ (0 < vec_len prices) }
+    ensures ends { IfSome result (λ ends. IsRange prices.items ends.0 ends.1) }
 {
     let sorted = BinaryHeap::from(prices).into_sorted_vec();
     if sorted.is_empty() {
@@ -56,7 +67,7 @@ pub fn range(prices: Vec<u32>) -> Option<(u32, u32)>
 /// Returns the prices from the highest down, by one pop after another.
 pub fn falling(alloc: Global, prices: BinaryHeap<u32>) -> Result<Vec<u32>, AllocError>
     ensures bag { IfOk result (λ list. IsSameBag prices.items list.items) }
-    ensures falls { IfOk result (λ list. (i j x y : ℕ) → i ≤ j → slice_get list.items i ≡ Some x → slice_get list.items j ≡ Some y → y ≤ x) }
+    ensures falls { IfOk result (λ list. Falls list.items) }
 {
     let mut left = prices;
     let mut list = Vec::with_capacity(alloc, left.len())?;
@@ -69,14 +80,16 @@ pub fn falling(alloc: Global, prices: BinaryHeap<u32>) -> Result<Vec<u32>, Alloc
 /// Adds prices for which there is room. So it can't fail.
 pub fn add_all(prices: &mut BinaryHeap<u32>, more: Vec<u32>) -> Result<(), AllocError>
     requires { length prices.old.items + vec_len more ≤ prices.old.capacity }
-    ensures { IsOk result }
+    ensures succeeds { IsOk result }
+    ensures bag { IsSameBag (prices.old.items ++ more.items) prices.new.items }
 {
     prices.extend(more)
 }
 
 /// Takes the prices above a limit out, and returns how many they were.
 pub fn cut(prices: &mut BinaryHeap<u32>, limit: u32) -> usize
-    ensures { length prices.new.items + result ≡ length prices.old.items }
+    ensures left { IsSameBag (up_to limit prices.old.items) prices.new.items }
+    ensures cut { result ≡ count_by (λ price. nat_lt limit price) prices.old.items }
 {
     let before = prices.len();
     keep_below(prices, limit);
@@ -86,14 +99,19 @@ pub fn cut(prices: &mut BinaryHeap<u32>, limit: u32) -> usize
 /// Drops the prices above a limit.
 #[tactic(auto, using(dary_heap::proofs::Callable::takes_in_turn))]
 fn keep_below(prices: &mut BinaryHeap<u32>, limit: u32)
-    ensures { length prices.new.items ≤ length prices.old.items }
+    ensures left { IsSameBag (up_to limit prices.old.items) prices.new.items }
+    ensures len { length prices.new.items ≤ length prices.old.items }
 {
     prices.retain(|price| *price <= limit);
 }
 
 /// Moves all prices of one heap into another and returns how many there are then.
 pub fn join(prices: &mut BinaryHeap<u32>, others: &mut BinaryHeap<u32>) -> Result<usize, AllocError>
-    ensures { IfOk result (λ all. all ≡ length prices.old.items + length others.old.items) }
+    ensures bag { OnOk result (IsSameBag (prices.old.items ++ others.old.items) prices.new.items) }
+    ensures emptied { OnOk result (others.new.items ≡ []) }
+    ensures all { IfOk result (λ all. all ≡ length prices.old.items + length others.old.items) }
+    ensures unchanged { OnErr result (prices.new ≡ prices.old) }
+    ensures others_unchanged { OnErr result (others.new ≡ others.old) }
 {
     prices.append(others)?;
     Ok(prices.len())
@@ -109,7 +127,8 @@ pub fn moved<T: Ord>(heap: collections::BinaryHeap<T>) -> BinaryHeap<T>
 
 /// Returns the vector of a heap, for code that relies on the order that std's heap keeps.
 pub fn as_std<T: Ord>(heap: BinaryHeap<T>) -> Vec<T>
-    ensures { IsHeap T.cmp result.items }
+    ensures heap { IsHeap T.cmp result.items }
+    ensures items { result.items ≡ heap.items }
 {
     heap.into_vec()
 }
@@ -120,6 +139,7 @@ pub fn take_all<T: Ord, const D: usize>(
 ) -> Result<DaryHeap<T, D>, AllocError>
     ensures taken { IfOk result (λ all. all ≡ heap.old) }
     ensures left { OnOk result (heap.new.items ≡ []) }
+    ensures unchanged { OnErr result (heap.new ≡ heap.old) }
 {
     mem::try_take(heap)
 }
@@ -128,12 +148,16 @@ pub fn take_all<T: Ord, const D: usize>(
 ///
 /// # Errors
 ///
-/// Returns `AllocError` if memory allocation fails.
+/// Returns `AllocError` if memory allocation fails. Then each place has the prices that it had.
 pub fn add_at(
     places: &mut collections::BTreeMap<u32, BinaryHeap<u32>>,
     place: u32,
     price: u32,
-) -> Result<(), AllocError> {
+) -> Result<(), AllocError>
+    ensures added { OnOk result (IsAddedAt place price places.old places.new) }
+    ensures unchanged { OnErr result (prices_at place places.new ≡ prices_at place places.old) }
+    ensures elsewhere { IsKeptElsewhere place places.old places.new }
+{
     let prices = places.entry(place)?.or_default();
     add_price(prices, price)
 }

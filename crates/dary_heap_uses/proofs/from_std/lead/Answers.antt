@@ -1,0 +1,19 @@
+use Rattle.std.proofs.Common.{◌≤◌, ◌∷◌, arith}
+use Rattle.std.proofs.lemmas.List.Elements.{All-contains}
+use Rattle.std.proofs.lemmas.List.Sorted.{IsPermutation-cons, IsPermutation-trans, le_from_greatest}
+use Rattle.dary_heap_uses.proofs.from_std.lead.Goals as goal
+
+pub returns-clause-lead : goal.returns-clause-lead
+returns-clause-lead c =
+    let first = c.in_ok-first.first in
+    let second = c.in_ok-second.second in
+    let mid = c.pop.new.self.items in
+    let new = c.pop-2.new.self.items in
+    let under : second ≤ first = All-contains (λ price. price ≤ first) mid second (le_from_greatest first mid c.in_ok-first.ensures.below_top) c.in_ok-second.ensures.greatest.occurs in
+    record {
+      first = first;
+      second = second;
+      bag = IsPermutation-trans _ _ _ c.in_ok-first.ensures.bag (IsPermutation-cons first mid (second ∷ new) c.in_ok-second.ensures.bag);
+      exceeds = omega (arith, under);
+      below = le_from_greatest second new c.in_ok-second.ensures.below_top;
+    }
