@@ -1,103 +1,140 @@
 //! The choice of the greatest child of a place, and of the last if several are equal.
 //!
-//! A whole row has two forms of it, with the same contract, result and comparisons. One computes the place
-//! without a branch, so the load of the next row waits for this one. The other branches: the processor
-//! guesses, and loads the next row before the choice is known. A wrong guess costs some 20 cycles, and a
-//! row that comes from main memory some 300.
-ghost use Rattle.std.specs.Prelude.{◌≡◌, ◌+◌, ◌-◌, ◌/◌, ◌≤◌, ℕ, if◌then◌else◌};
+//! A whole row has two forms of it, with the same result and comparisons. One chooses without a branch, an
+//! item with its place, so that the next comparison waits for no load; but the load of the next row waits
+//! for the choice. The other, which long slices of arity 2 take, branches: the processor guesses, and loads
+//! the next row early. A wrong guess costs some 20 cycles, and a row from main memory some 300.
+ghost use Rattle.std.specs.Prelude.{◌≡◌, ◌+◌, ◌-◌, ◌/◌, ◌≤◌, ℕ, List};
+ghost use Rattle.std.specs.declared.cmp.Ordering.{Ordering};
 ghost use Rattle.dary_heap.specs.HeapOrder.{arity};
-ghost use Rattle.dary_heap.specs.Choosing.{Chooses, FindsGreatestChild, IsAt, IsBelow};
-ghost use Rattle.dary_heap.specs.Sifting.{IsLastGreatest};
+ghost use Rattle.dary_heap.specs.Choosing.{Chooses, FindsGreatestChild, IsAt, IsBelow, IsGreatestAt};
 
 use super::Judge;
 use crate::hole::Hole;
 
-/// Returns the second if `is_second`, else the first, with no branch.
+/// Returns a place with its item.
 #[inline(always)]
-fn pick(is_second: bool, first: usize, second: usize) -> usize
-    ensures { result ≡ (if is_second then second else first) }
+fn item_at<T>(hole: &Hole<T>, place: usize) -> (usize, &T)
+    requires { IsBelow hole.now place (place + 1) }
+    ensures { (order : T → T → Ordering) → IsGreatestAt order place (place + 1) result.0 result.1.now hole.now.items }
 {
-    let mask = is_second as usize * usize::MAX;
-    (second & mask) | (first & !mask)
+    (place, hole.get(place))
 }
 
-/// Returns the place of the greater of two last greatest items, of rows that stand beside one another:
-/// the later one if the two are equal.
+/// Returns the greater of two items with its place: the second if the two are equal.
 #[inline(always)]
-fn greater_of<T, J: Judge<T>, const GUESSES: bool>(
-    hole: &Hole<T>,
-    a: usize,
-    b: usize,
+fn greater_of<'a, T, J: Judge<T>>(
+    a: (usize, &'a T),
+    b: (usize, &'a T),
     judge: &mut J,
-) -> usize
-    requires first { IsBelow hole.now a (a + 1) }
-    requires second { IsBelow hole.now b (b + 1) }
-    ensures greatest { (first mid end : ℕ) → IsLastGreatest J.order first mid a hole.now.items → IsLastGreatest J.order mid end b hole.now.items → IsLastGreatest J.order first end result hole.now.items }
+) -> (usize, &'a T)
+    ensures chosen { (items : List T) (first mid end : ℕ) → IsGreatestAt J.order first mid a.entry.0 a.entry.1.now items → IsGreatestAt J.order mid end b.entry.0 b.entry.1.now items → IsGreatestAt J.order first end result.0 result.1.now items }
     ensures counted { J.count judge.new ≡ J.count judge.old + 1 }
 {
-    let is_second = judge.at_most(hole.get(a), hole.get(b));
-    if GUESSES {
-        return if is_second { b } else { a };
-    }
-    pick(is_second, a, b)
+    if judge.at_most(a.1, b.1) { b } else { a }
 }
 
-/// Returns the place of the last greatest of two items.
+/// Returns the place of the last greatest of two items. It adds, since the compiler would make a branch of a
+/// choice in a loop that makes one alone.
 #[inline(always)]
-fn greatest_of_two<T, J: Judge<T>>(hole: &Hole<T>, first: usize, judge: &mut J) -> usize
+fn place_of_two<T, J: Judge<T>>(hole: &Hole<T>, first: usize, judge: &mut J) -> usize
     requires { IsBelow hole.now first (first + 2) }
     ensures { Chooses J.order first (first + 2) result hole.now.items (J.count judge.old) (J.count judge.new) }
 {
     first + judge.at_most(hole.get(first), hole.get(first + 1)) as usize
 }
 
-/// Returns the place of the last greatest of three items.
+/// Returns the last greatest of two items with its place.
 #[inline(always)]
-fn greatest_of_three<T, J: Judge<T>>(hole: &Hole<T>, first: usize, judge: &mut J) -> usize
-    requires { IsBelow hole.now first (first + 3) }
-    ensures { Chooses J.order first (first + 3) result hole.now.items (J.count judge.old) (J.count judge.new) }
+fn greatest_of_two<'a, T, J: Judge<T>>(
+    hole: &'a Hole<T>,
+    first: usize,
+    judge: &mut J,
+) -> (usize, &'a T)
+    requires { IsBelow hole.now first (first + 2) }
+    ensures chosen { IsGreatestAt J.order first (first + 2) result.0 result.1.now hole.now.items }
+    ensures counted { J.count judge.new ≡ J.count judge.old + 1 }
 {
-    let best = greatest_of_two(hole, first, judge);
-    greater_of::<T, J, false>(hole, best, first + 2, judge)
+    greater_of(item_at(hole, first), item_at(hole, first + 1), judge)
 }
 
-/// Returns the place of the last greatest of four items.
+/// Returns the last greatest of three items with its place.
 #[inline(always)]
-fn greatest_of_four<T, J: Judge<T>>(hole: &Hole<T>, first: usize, judge: &mut J) -> usize
+fn greatest_of_three<'a, T, J: Judge<T>>(
+    hole: &'a Hole<T>,
+    first: usize,
+    judge: &mut J,
+) -> (usize, &'a T)
+    requires { IsBelow hole.now first (first + 3) }
+    ensures chosen { IsGreatestAt J.order first (first + 3) result.0 result.1.now hole.now.items }
+    ensures counted { J.count judge.new ≡ J.count judge.old + 2 }
+{
+    let left = greatest_of_two(hole, first, judge);
+    greater_of(left, item_at(hole, first + 2), judge)
+}
+
+/// Returns the last greatest of four items with its place.
+#[inline(always)]
+fn greatest_of_four<'a, T, J: Judge<T>>(
+    hole: &'a Hole<T>,
+    first: usize,
+    judge: &mut J,
+) -> (usize, &'a T)
     requires { IsBelow hole.now first (first + 4) }
-    ensures { Chooses J.order first (first + 4) result hole.now.items (J.count judge.old) (J.count judge.new) }
+    ensures chosen { IsGreatestAt J.order first (first + 4) result.0 result.1.now hole.now.items }
+    ensures counted { J.count judge.new ≡ J.count judge.old + 3 }
 {
     let left = greatest_of_two(hole, first, judge);
     let right = greatest_of_two(hole, first + 2, judge);
-    greater_of::<T, J, false>(hole, left, right, judge)
+    greater_of(left, right, judge)
 }
 
-/// Returns the place of the last greatest of eight items.
-// With `inline(always)` the functions above would grow so large that the compiler drops theirs.
-#[inline]
-fn greatest_of_eight<T, J: Judge<T>>(hole: &Hole<T>, first: usize, judge: &mut J) -> usize
+/// Returns the last greatest of eight items with its place.
+#[inline(always)]
+fn greatest_of_eight<'a, T, J: Judge<T>>(
+    hole: &'a Hole<T>,
+    first: usize,
+    judge: &mut J,
+) -> (usize, &'a T)
     requires { IsBelow hole.now first (first + 8) }
-    ensures { Chooses J.order first (first + 8) result hole.now.items (J.count judge.old) (J.count judge.new) }
+    ensures chosen { IsGreatestAt J.order first (first + 8) result.0 result.1.now hole.now.items }
+    ensures counted { J.count judge.new ≡ J.count judge.old + 7 }
 {
     let left = greatest_of_four(hole, first, judge);
     let right = greatest_of_four(hole, first + 4, judge);
-    greater_of::<T, J, false>(hole, left, right, judge)
+    greater_of(left, right, judge)
 }
 
-/// Returns the place of the last greatest item from `first` up to `end`.
+/// Returns the last greatest item from `first` up to `end` with its place.
 #[inline(always)]
-fn last_greatest<T, J: Judge<T>, const GUESSES: bool>(
-    hole: &Hole<T>,
+fn last_greatest<'a, T, J: Judge<T>>(
+    hole: &'a Hole<T>,
     first: usize,
     end: usize,
     judge: &mut J,
-) -> usize
+) -> (usize, &'a T)
+    requires { IsBelow hole.now first end }
+    ensures chosen { IsGreatestAt J.order first end result.0 result.1.now hole.now.items }
+    ensures counted { J.count judge.new + first + 1 ≡ J.count judge.old + end }
+{
+    let mut best = item_at(hole, first);
+    for place in first + 1..end {
+        best = greater_of(best, item_at(hole, place), judge);
+    }
+    best
+}
+
+/// Returns the place of the last greatest item from `first` up to `end`, by guesses.
+#[inline(always)]
+fn guessed<T, J: Judge<T>>(hole: &Hole<T>, first: usize, end: usize, judge: &mut J) -> usize
     requires { IsBelow hole.now first end }
     ensures { Chooses J.order first end result hole.now.items (J.count judge.old) (J.count judge.new) }
 {
     let mut best = first;
     for place in first + 1..end {
-        best = greater_of::<T, J, GUESSES>(hole, best, place, judge);
+        if judge.at_most(hole.get(best), hole.get(place)) {
+            best = place;
+        }
     }
     best
 }
@@ -119,14 +156,14 @@ pub(super) fn greatest_child<T, J: Judge<T>, const D: usize, const GUESSES: bool
     }
     let first = at * arity + 1;
     if GUESSES {
-        return Some(last_greatest::<T, J, true>(hole, first, first + arity, judge));
+        return Some(guessed(hole, first, first + arity, judge));
     }
     Some(match D {
-        2 => greatest_of_two(hole, first, judge),
-        3 => greatest_of_three(hole, first, judge),
-        4 => greatest_of_four(hole, first, judge),
-        8 => greatest_of_eight(hole, first, judge),
-        _ => last_greatest::<T, J, false>(hole, first, first + arity, judge),
+        2 => place_of_two(hole, first, judge),
+        3 => greatest_of_three(hole, first, judge).0,
+        4 => greatest_of_four(hole, first, judge).0,
+        8 => greatest_of_eight(hole, first, judge).0,
+        _ => last_greatest(hole, first, first + arity, judge).0,
     })
 }
 
@@ -156,8 +193,8 @@ fn greatest_of_cut<T, J: Judge<T>, const D: usize>(
     }
     Some(match count {
         1 => first,
-        2 => greatest_of_two(hole, first, judge),
-        3 => greatest_of_three(hole, first, judge),
-        _ => last_greatest::<T, J, false>(hole, first, len, judge),
+        2 => place_of_two(hole, first, judge),
+        3 => greatest_of_three(hole, first, judge).0,
+        _ => last_greatest(hole, first, len, judge).0,
     })
 }

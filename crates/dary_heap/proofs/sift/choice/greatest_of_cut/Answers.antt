@@ -6,13 +6,13 @@ use Rattle.dary_heap.proofs.sift.Row.{greatest_of_one}
 use Rattle.dary_heap.proofs.sift.choice.greatest_of_cut.Goals as goal
 
 pub returns-in-2 : goal.returns-in-2
-returns-in-2 g c = cut_row g.met.J.Judge.total g.row.D c.args.at c.args.len c.max-arity.result c.args.hole.now c.requires.here c.max-arity.ensures _ _ _ _ c.requires.cut (omega (arith, c.in-2.is)) (omega (arith, c.in-2.is)) c.greatest_of_two.ensures
+returns-in-2 g c = cut_row g.met.J.Judge.total g.row.D c.args.at c.args.len c.max-arity.result c.args.hole.now c.requires.here c.max-arity.ensures _ _ _ _ c.requires.cut (omega (arith, c.in-2.is)) (omega (arith, c.in-2.is)) c.place_of_two.ensures
 
 pub returns-in-3 : goal.returns-in-3
-returns-in-3 g c = cut_row g.met.J.Judge.total g.row.D c.args.at c.args.len c.max-arity.result c.args.hole.now c.requires.here c.max-arity.ensures _ _ _ _ c.requires.cut (omega (arith, c.in-3.is)) (omega (arith, c.in-3.is)) c.greatest_of_three.ensures
+returns-in-3 g c = cut_row g.met.J.Judge.total g.row.D c.args.at c.args.len c.max-arity.result c.args.hole.now c.requires.here c.max-arity.ensures _ _ _ _ c.requires.cut (omega (arith, c.in-3.is)) (omega (arith, c.in-3.is)) (record { greatest = c.greatest_of_three.ensures.chosen.greatest; counted = omega (arith, c.greatest_of_three.ensures.counted) })
 
 pub returns-in_default : goal.returns-in_default
-returns-in_default g c = cut_row g.met.J.Judge.total g.row.D c.args.at c.args.len c.max-arity.result c.args.hole.now c.requires.here c.max-arity.ensures _ _ _ _ c.requires.cut refl (omega (arith, c.in_default)) c.last_greatest.ensures
+returns-in_default g c = cut_row g.met.J.Judge.total g.row.D c.args.at c.args.len c.max-arity.result c.args.hole.now c.requires.here c.max-arity.ensures _ _ _ _ c.requires.cut refl (omega (arith, c.in_default)) (record { greatest = c.last_greatest.ensures.chosen.greatest; counted = c.last_greatest.ensures.counted })
 
 pub returns-then-this-le2 : goal.returns-then-this-le2
 returns-then-this-le2 g c =

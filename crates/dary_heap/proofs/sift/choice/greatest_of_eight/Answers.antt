@@ -1,16 +1,13 @@
 use Rattle.std.proofs.Common.{◌+◌, subst, arith}
-use Rattle.dary_heap.specs.Sifting.{IsLastGreatest}
+use Rattle.dary_heap.specs.Choosing.{IsGreatestAt}
 use Rattle.dary_heap.proofs.sift.choice.greatest_of_eight.Goals as goal
 
 pub overflow_add-first : goal.overflow_add-first
 overflow_add-first g c = record { fits = omega (arith, c.requires.within, c.args.hole.now.small, c.args.hole.now.ok.0) }
 
-pub returns : goal.returns
-returns g c =
-    let xs = c.args.hole.now.items in
+pub returns-clause-chosen : goal.returns-clause-chosen
+returns-clause-chosen g c =
     let first = c.args.first in
-    let right = subst (λ m. IsLastGreatest g.J.Judge.order (first + 4) m c.greatest_of_four-right.result xs) (omega arith) c.greatest_of_four-right.ensures.greatest in
-    record {
-      greatest = c.greater_of.ensures.greatest first (first + 4) (first + 8) c.greatest_of_four-left.ensures.greatest right;
-      counted = omega (arith, c.greatest_of_four-left.ensures.counted, c.greatest_of_four-right.ensures.counted, c.greater_of.ensures.counted);
-    }
+    let xs = c.args.hole.now.items in
+    let right = subst (λ end. IsGreatestAt g.J.Judge.order (first + 4) end c.greatest_of_four-right.result.0 c.greatest_of_four-right.result.1.now xs) (omega arith) c.greatest_of_four-right.ensures.chosen in
+    c.greater_of.ensures.chosen xs first (first + 4) (first + 8) c.greatest_of_four-left.ensures.chosen right

@@ -1,17 +1,14 @@
 use Rattle.std.proofs.Common.{◌+◌, subst, arith}
-use Rattle.dary_heap.specs.Sifting.{IsLastGreatest}
-use Rattle.dary_heap.proofs.sift.Row.{greatest_of_one}
+use Rattle.dary_heap.specs.Choosing.{IsGreatestAt}
 use Rattle.dary_heap.proofs.sift.choice.greatest_of_three.Goals as goal
 
 pub overflow_add-first : goal.overflow_add-first
 overflow_add-first g c = record { fits = omega (arith, c.requires.within, c.args.hole.now.small, c.args.hole.now.ok.0) }
 
-pub returns : goal.returns
-returns g c =
-    let xs = c.args.hole.now.items in
+pub returns-clause-chosen : goal.returns-clause-chosen
+returns-clause-chosen g c =
     let first = c.args.first in
-    let last = subst (λ m. IsLastGreatest g.J.Judge.order (first + 2) m (first + 2) xs) (omega arith) (greatest_of_one g.J.Judge.order (first + 2) xs) in
-    record {
-      greatest = c.greater_of.ensures.greatest first (first + 2) (first + 3) c.greatest_of_two-best.ensures.greatest last;
-      counted = omega (arith, c.greatest_of_two-best.ensures.counted, c.greater_of.ensures.counted);
-    }
+    let order = g.J.Judge.order in
+    let xs = c.args.hole.now.items in
+    let last = subst (λ end. IsGreatestAt order (first + 2) end c.item_at.result.0 c.item_at.result.1.now xs) (omega arith) (c.item_at.ensures order) in
+    c.greater_of.ensures.chosen xs first (first + 2) (first + 3) c.greatest_of_two-left.ensures.chosen last
