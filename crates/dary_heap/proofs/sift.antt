@@ -10,4 +10,5 @@ pub mod SiftingUp
 pub mod Sorting
 pub mod Tail
 pub mod Uncounted
+pub mod WayToBottom
 pub mod Written

@@ -2,8 +2,8 @@
 //!
 //! A whole row has two forms of it, with the same result and comparisons. One chooses without a branch, an
 //! item with its place, so that the next comparison waits for no load; but the load of the next row waits
-//! for the choice. The other, which long slices of arity 2 take, branches: the processor guesses, and loads
-//! the next row early. A wrong guess costs some 20 cycles, and a row from main memory some 300.
+//! for the choice. The other, for slices that are longer than the caches, branches: the processor guesses,
+//! and loads the next row early. A wrong guess costs some 20 cycles, and a row from main memory some 300.
 ghost use Rattle.std.specs.Prelude.{◌≡◌, ◌+◌, ◌-◌, ◌/◌, ◌≤◌, ℕ, List};
 ghost use Rattle.std.specs.declared.cmp.Ordering.{Ordering};
 ghost use Rattle.dary_heap.specs.HeapOrder.{arity};
@@ -126,7 +126,7 @@ fn last_greatest<'a, T, J: Judge<T>>(
 
 /// Returns the place of the last greatest item from `first` up to `end`, by guesses.
 #[inline(always)]
-fn guessed<T, J: Judge<T>>(hole: &Hole<T>, first: usize, end: usize, judge: &mut J) -> usize
+pub(super) fn guessed<T, J: Judge<T>>(hole: &Hole<T>, first: usize, end: usize, judge: &mut J) -> usize
     requires { IsBelow hole.now first end }
     ensures { Chooses J.order first end result hole.now.items (J.count judge.old) (J.count judge.new) }
 {
@@ -169,7 +169,7 @@ pub(super) fn greatest_child<T, J: Judge<T>, const D: usize, const GUESSES: bool
 
 /// The same if no whole row is below the hole: its children are the last places, if it has any.
 #[inline(always)]
-fn greatest_of_cut<T, J: Judge<T>, const D: usize>(
+pub(super) fn greatest_of_cut<T, J: Judge<T>, const D: usize>(
     hole: &Hole<T>,
     at: usize,
     len: usize,
