@@ -126,7 +126,12 @@ fn last_greatest<'a, T, J: Judge<T>>(
 
 /// Returns the place of the last greatest item from `first` up to `end`, by guesses.
 #[inline(always)]
-pub(super) fn guessed<T, J: Judge<T>>(hole: &Hole<T>, first: usize, end: usize, judge: &mut J) -> usize
+pub(super) fn guessed<T, J: Judge<T>>(
+    hole: &Hole<T>,
+    first: usize,
+    end: usize,
+    judge: &mut J,
+) -> usize
     requires { IsBelow hole.now first end }
     ensures { Chooses J.order first end result hole.now.items (J.count judge.old) (J.count judge.new) }
 {
