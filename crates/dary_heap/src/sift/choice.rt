@@ -174,7 +174,7 @@ pub(super) fn greatest_child<T, J: Judge<T>, const D: usize, const GUESSES: bool
 
 /// The same if no whole row is below the hole: its children are the last places, if it has any.
 #[inline(always)]
-pub(super) fn greatest_of_cut<T, J: Judge<T>, const D: usize>(
+fn greatest_of_cut<T, J: Judge<T>, const D: usize>(
     hole: &Hole<T>,
     at: usize,
     len: usize,
