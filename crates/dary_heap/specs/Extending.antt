@@ -1,5 +1,5 @@
 -- What items that come in one after another make of a heap.
-use Rattle.std.specs.Prelude.{◌≡◌, ℕ, ◌+◌, ◌-◌, ◌≤◌, ◌++◌, List, [], ◌∷◌, length, Bool, Option, None}
+use Rattle.std.specs.Prelude.{◌≡◌, ℕ, ◌+◌, ◌-◌, ◌≤◌, ◌++◌, List, [], ◌∷◌, length, map, Bool, Option, None}
 use Rattle.std.specs.Bool.{MatchBool}
 use Rattle.std.specs.Iterator.{Count, IsFinite, size, Yields, YieldsThen}
 use Rattle.std.specs.declared.cmp.Ordering.{Ordering}
@@ -28,3 +28,11 @@ pub record IsExtended {T : Type 0} (cmp : T → T → Ordering) (D : ℕ) (old :
   pub len : length new.items ≡ length old.items + length xs
   pub counted : RisesWithin old.comparisons new.comparisons (mend_bound D (length new.items) (length new.items - length old.items))
   pub capacity : old.capacity ≤ new.capacity
+
+-- an iterator gave what came in, and then an item for which memory allocation failed
+pub record IsExtendedUntilRefused {V S A T : Type 0} (becomes : V → S → Type 0) (steps : S → Option A → S → Type 0) (value : A → T) (cmp : T → T → Ordering) (D : ℕ) (iter : V) (old new : Contents T) : Type 0 where
+  pub from : S
+  pub came : List A
+  pub begins : becomes iter from
+  pub refused : IsRefusedAfter steps from came (length old.items) old.capacity
+  pub extended : IsExtended cmp D old (map value came) new

@@ -94,7 +94,11 @@ pub struct DaryHeap<T: Ord, const D: usize> {
 impl<T: Ord, const D: usize> Model for DaryHeap<T, D> {
     ghost Value = { Contents T };
 
-    ghost view = { λ heap. record { items = heap.items.items; capacity = vec_capacity heap.items; comparisons = heap.judge } };
+    ghost view = { λ heap. record {
+      items = heap.items.items;
+      capacity = vec_capacity heap.items;
+      comparisons = heap.judge;
+    } };
 
     ghost invariant = { λ heap. IsHeapOrdered T.cmp D heap.items.items };
 }
@@ -303,12 +307,16 @@ impl<T: Ord, const D: usize> DaryHeap<T, D> {
     #[inline]
     pub fn push(&mut self, item: T) -> Result<(), T>
         ensures bag { OnOk result (IsSameBag (item ∷ self.old.items) self.new.items) }
-        ensures first { OnOk result (front self.new.items ≡ Some (front_with T.cmp item (front self.old.items))) }
-        ensures counted { OnOk result (RisesWithin self.old.comparisons self.new.comparisons (push_bound D (length self.old.items))) }
-        ensures len { length self.new.items ≡ length self.old.items + (if is_ok result then 1 else 0) }
+        ensures first { OnOk result
+            (front self.new.items ≡ Some (front_with T.cmp item (front self.old.items))) }
+        ensures counted { OnOk result (RisesWithin self.old.comparisons self.new.comparisons
+            (push_bound D (length self.old.items))) }
+        ensures len { length self.new.items ≡ length self.old.items
+            + (if is_ok result then 1 else 0) }
         ensures ordered { IsHeapOrdered T.cmp D self.new.items }
         ensures capacity { self.old.capacity ≤ self.new.capacity }
-        ensures kept { length self.old.items < self.old.capacity → self.new.capacity ≡ self.old.capacity }
+        ensures kept { length self.old.items < self.old.capacity
+            → self.new.capacity ≡ self.old.capacity }
 
         // It fails only if the heap is full, and then nothing has changed.
         ensures succeeds { length self.old.items < self.old.capacity → IsOk result }
@@ -347,7 +355,8 @@ impl<T: Ord, const D: usize> DaryHeap<T, D> {
         ensures bag { IfSome result (λ item. IsSameBag self.old.items (item ∷ self.new.items)) }
         ensures len { length self.new.items ≡ length self.old.items - 1 }
         ensures ordered { IsHeapOrdered T.cmp D self.new.items }
-        ensures counted { RisesWithin self.old.comparisons self.new.comparisons (pop_bound D (length self.old.items)) }
+        ensures counted { RisesWithin self.old.comparisons self.new.comparisons
+            (pop_bound D (length self.old.items)) }
         ensures capacity { self.new.capacity ≡ self.old.capacity }
 
         // If there is no item nothing changes.

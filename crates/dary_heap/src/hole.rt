@@ -20,9 +20,14 @@ pub(crate) fn with_places<T, S, R, F: FnOnce(Places<T>, &mut S) -> (Places<T>, R
     state: &mut S,
     f: F,
 ) -> R
-    requires callable { (places : Whole T) (lent : MutBor S) → places.items ≡ items.old → lent.now ≡ state.old → F.pre f places lent }
-    requires gives_back { (places : Whole T) (lent : MutBor S) (out : Whole T × R) (left : _) → places.items ≡ items.old → F.post f places lent out left → IsSameSlice places out.0 }
-    ensures { (places : Whole T) × (lent : MutBor S) × (back : Whole T) × (left : _) × (places.items ≡ items.old) × (lent.now ≡ state.old) × F.post f places lent (back, result) left × (items.new ≡ back.items) × (left.now ≡ state.new) }
+    requires callable { (places : Whole T) (lent : MutBor S) → places.items ≡ items.old
+        → lent.now ≡ state.old → F.pre f places lent }
+    requires gives_back { (places : Whole T) (lent : MutBor S) (out : Whole T × R) (left : _)
+        → places.items ≡ items.old → F.post f places lent out left → IsSameSlice places out.0 }
+    ensures { (places : Whole T) × (lent : MutBor S) × (back : Whole T) × (left : _)
+        × (places.items ≡ items.old) × (lent.now ≡ state.old)
+        × F.post f places lent (back, result) left
+        × (items.new ≡ back.items) × (left.now ≡ state.new) }
 {
     let len = items.len();
     let ptr = items.as_mut_ptr();

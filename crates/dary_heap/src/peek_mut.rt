@@ -68,15 +68,19 @@ impl<'a, T: Ord + Drop, const D: usize, I: Held<T>> Drop for PeekMut<'a, T, D, I
         ensures bag { IsSameBag (loaned self.entry).items self.exit.0.now.items }
         ensures len { length self.exit.0.now.items ≡ length (loaned self.entry).items }
         ensures ordered { IsHeapOrdered T.cmp D self.exit.0.now.items }
-        ensures counted { RisesWithin (loaned self.entry).comparisons self.exit.0.now.comparisons (sink_bound D (length (loaned self.entry).items)) }
+        ensures counted { RisesWithin (loaned self.entry).comparisons self.exit.0.now.comparisons
+            (sink_bound D (length (loaned self.entry).items)) }
         ensures capacity { self.exit.0.now.capacity ≡ (loaned self.entry).capacity }
 
         // From arity 2 on this says more if the last place is the first of its depth.
-        ensures tight { RisesWithin (loaned self.entry).comparisons self.exit.0.now.comparisons (pop_bound D (length (loaned self.entry).items) + 1) }
+        ensures tight { RisesWithin (loaned self.entry).comparisons self.exit.0.now.comparisons
+            (pop_bound D (length (loaned self.entry).items) + 1) }
 
         // What no other item exceeds stays the first, and then no item moves.
-        ensures first { (IsExceeded T.cmp (loaned self.entry).items → ⊥) → front self.exit.0.now.items ≡ front (loaned self.entry).items }
-        ensures unmoved { (IsExceeded T.cmp (loaned self.entry).items → ⊥) → self.exit.0.now.items ≡ (loaned self.entry).items }
+        ensures first { (IsExceeded T.cmp (loaned self.entry).items → ⊥)
+            → front self.exit.0.now.items ≡ front (loaned self.entry).items }
+        ensures unmoved { (IsExceeded T.cmp (loaned self.entry).items → ⊥)
+            → self.exit.0.now.items ≡ (loaned self.entry).items }
 
         // If nothing was written, or one item is alone, nothing changes and nothing is compared.
         ensures unwritten { is_written self.entry ≡ false → self.exit.0.now ≡ loaned self.entry }

@@ -173,10 +173,12 @@ pub fn run<T: Ord + Drop, const D: usize, P: FnMut(&T) -> bool>(
     heap: &mut DaryHeap<T, D>,
     commands: Vec<Command<T, D, P>>,
 ) -> Result<Vec<Reply<T, D>>, Vec<Command<T, D, P>>>
-    requires { All (IsCallableOn P.FnMut (heap.old.items ++ items_in (read.commands commands.items))) (predicates_in (read.commands commands.items)) }
+    requires { All (IsCallableOn P.FnMut (heap.old.items ++ items_in
+        (read.commands commands.items))) (predicates_in (read.commands commands.items)) }
 
     // The replies and the items are a run of the bag machine, within its charges.
-    ensures runs { IfOk result (λ replies. Runs T.cmp (CalledAt P.FnMut) D heap.old (read.commands commands.items) (read.replies replies.items) heap.new) }
+    ensures runs { IfOk result (λ replies. Runs T.cmp (CalledAt P.FnMut) D heap.old
+        (read.commands commands.items) (read.replies replies.items) heap.new) }
     ensures ordered { IsHeapOrdered T.cmp D heap.new.items }
 
     // Without memory for the replies nothing is done. No command needs none.
@@ -226,8 +228,10 @@ fn serve<T: Ord + Drop, const D: usize, P: FnMut(&T) -> bool>(
     heap: &mut DaryHeap<T, D>,
     command: Command<T, D, P>,
 ) -> Reply<T, D>
-    requires { All (IsCallableOn P.FnMut heap.old.items) (predicates_in (read.command command ∷ [])) }
-    ensures { Serves T.cmp (CalledAt P.FnMut) D heap.old (read.command command) (read.reply result) heap.new }
+    requires { All (IsCallableOn P.FnMut heap.old.items)
+        (predicates_in (read.command command ∷ [])) }
+    ensures { Serves T.cmp (CalledAt P.FnMut) D heap.old (read.command command)
+        (read.reply result) heap.new }
 {
     match command {
         Command::Push(item) => push(heap, item),
@@ -268,9 +272,11 @@ fn ask<T: Ord, const D: usize, F: FnOnce(&T) -> bool>(
     heap: &DaryHeap<T, D>,
     predicate: F,
 ) -> Option<bool>
-    requires { (item : T) → slice_get heap.now.items 0 ≡ Some item → FnOnceTakesAt F.FnOnce predicate item }
+    requires { (item : T) → slice_get heap.now.items 0 ≡ Some item
+        → FnOnceTakesAt F.FnOnce predicate item }
     ensures empty { heap.now.items ≡ [] → result ≡ None }
-    ensures asked { (item : T) → slice_get heap.now.items 0 ≡ Some item → (answer : Bool) × FnOnceReturnsAt F.FnOnce predicate item answer × (result ≡ Some answer) }
+    ensures asked { (item : T) → slice_get heap.now.items 0 ≡ Some item → (answer : Bool)
+        × FnOnceReturnsAt F.FnOnce predicate item answer × (result ≡ Some answer) }
     ensures ordered { IsHeapOrdered T.cmp D heap.now.items }
 {
     Some(predicate(heap.peek()?))
@@ -287,14 +293,16 @@ fn retain<T: Ord + Drop, const D: usize, P: FnMut(&T) -> bool>(
     predicate: P,
 ) -> Reply<T, D>
     requires { IsCallableOn P.FnMut heap.old.items predicate }
-    ensures { Serves T.cmp (CalledAt P.FnMut) D heap.old (machine.Retain predicate) (read.reply result) heap.new }
+    ensures { Serves T.cmp (CalledAt P.FnMut) D heap.old (machine.Retain predicate)
+        (read.reply result) heap.new }
 {
     heap.retain(predicate);
     Reply::Done
 }
 
 fn extend<T: Ord + Drop, const D: usize>(heap: &mut DaryHeap<T, D>, items: Vec<T>) -> Reply<T, D>
-    ensures { ServesPlain T.cmp D heap.old (machine.Extend items.items) (read.reply result) heap.new }
+    ensures { ServesPlain T.cmp D heap.old (machine.Extend items.items)
+        (read.reply result) heap.new }
 {
     match heap.extend(items) {
         Ok(()) => Reply::Done,
@@ -306,7 +314,8 @@ fn append<T: Ord + Drop, const D: usize>(
     heap: &mut DaryHeap<T, D>,
     mut other: DaryHeap<T, D>,
 ) -> Reply<T, D>
-    ensures { ServesPlain T.cmp D heap.old (machine.Append other.items) (read.reply result) heap.new }
+    ensures { ServesPlain T.cmp D heap.old (machine.Append other.items)
+        (read.reply result) heap.new }
 {
     match heap.append(&mut other) {
         Ok(()) => Reply::Done,
@@ -315,7 +324,8 @@ fn append<T: Ord + Drop, const D: usize>(
 }
 
 fn reserve<T: Ord, const D: usize>(heap: &mut DaryHeap<T, D>, additional: usize) -> Reply<T, D>
-    ensures { ServesPlain T.cmp D heap.old (machine.Reserve additional) (read.reply result) heap.new }
+    ensures { ServesPlain T.cmp D heap.old (machine.Reserve additional)
+        (read.reply result) heap.new }
 {
     match heap.reserve(additional) {
         Ok(()) => Reply::Done,
@@ -362,7 +372,8 @@ fn drain_sorted<T: Ord + Drop, const D: usize>(
     heap: &mut DaryHeap<T, D>,
     count: usize,
 ) -> Reply<T, D>
-    ensures { ServesPlain T.cmp D heap.old (machine.DrainSorted count) (read.reply result) heap.new }
+    ensures { ServesPlain T.cmp D heap.old (machine.DrainSorted count)
+        (read.reply result) heap.new }
 {
     let count = count.min(heap.len());
     let Ok(mut taken) = Vec::with_capacity(alloc, count) else {
@@ -381,7 +392,8 @@ fn loan<T: Ord + Drop, const D: usize>(
     acts: Vec<Act<T>>,
     end: End,
 ) -> Reply<T, D>
-    ensures { ServesPlain T.cmp D heap.old (machine.Loan (read.acts acts.items) (read.ending end)) (read.reply result) heap.new }
+    ensures { ServesPlain T.cmp D heap.old (machine.Loan (read.acts acts.items) (read.ending end))
+        (read.reply result) heap.new }
 {
     if heap.is_empty() {
         return Reply::Loaned(None);

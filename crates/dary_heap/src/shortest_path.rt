@@ -75,7 +75,8 @@ impl Ord for State {
 impl PartialOrd for State {
     ghost partial_cmp = { as_partial_cmp state_cmp };
 
-    ghost laws = { partial_order_from_own_ties (Prim.search (comparing, rules)) (Prim.search (comparing, rules)) };
+    ghost laws = { partial_order_from_own_ties (Prim.search (comparing, rules))
+        (Prim.search (comparing, rules)) };
 
     fn partial_cmp(&self, other: &State) -> Option<Ordering> {
         Some(self.cmp(other))
@@ -142,13 +143,16 @@ pub fn shortest_path(
     requires start { start < length adj_list.now.items }
 
     // The result is the cost of a walk, and none costs less; or no walk leads to the goal.
-    ensures least { IfOk result (λ answer. IfSome answer (IsLeastCost adj_list.now.items start goal)) }
-    ensures unreached { IfOk result (λ answer. IfNone answer (IsUnreached adj_list.now.items start goal)) }
+    ensures least { IfOk result
+        (λ answer. IfSome answer (IsLeastCost adj_list.now.items start goal)) }
+    ensures unreached { IfOk result
+        (λ answer. IfNone answer (IsUnreached adj_list.now.items start goal)) }
 
     // If a critical node is cheaper to reach than the goal the call fails, and `CostTooLarge` comes only from
     // one that is no dearer to reach than the goal.
     ensures uncritical { OnOk result (NoneCriticalBelow usize.MAX adj_list.now.items start goal) }
-    ensures too_large { IfErr result (λ refusal. refusal ≡ CostTooLarge → HasCritical usize.MAX adj_list.now.items start goal) }
+    ensures too_large { IfErr result
+        (λ refusal. refusal ≡ CostTooLarge → HasCritical usize.MAX adj_list.now.items start goal) }
 {
     let mut heap = TernaryHeap::new(alloc);
     let mut work = Work::new();
@@ -170,20 +174,26 @@ fn search(
     requires empty { heap.old.items ≡ [] }
     requires unexamined { work.old.examined ≡ [] }
     requires unpushed { work.old.pushes ≡ 0 }
-    ensures least { IfOk result (λ answer. IfSome answer (IsLeastCost adj_list.now.items start goal)) }
-    ensures unreached { IfOk result (λ answer. IfNone answer (IsUnreached adj_list.now.items start goal)) }
+    ensures least { IfOk result
+        (λ answer. IfSome answer (IsLeastCost adj_list.now.items start goal)) }
+    ensures unreached { IfOk result
+        (λ answer. IfNone answer (IsUnreached adj_list.now.items start goal)) }
     ensures uncritical { OnOk result (NoneCriticalBelow usize.MAX adj_list.now.items start goal) }
-    ensures too_large { IfErr result (λ refusal. refusal ≡ CostTooLarge → HasCritical usize.MAX adj_list.now.items start goal) }
+    ensures too_large { IfErr result
+        (λ refusal. refusal ≡ CostTooLarge → HasCritical usize.MAX adj_list.now.items start goal) }
 
     // The edges of a node are examined once at most, so no more than there are.
     ensures once { AreExaminedOnce adj_list.now.items work.new.examined }
-    ensures within { length work.new.examined ≤ sum_by (λ row. length row.items) adj_list.now.items }
+    ensures within { length work.new.examined
+        ≤ sum_by (λ row. length row.items) adj_list.now.items }
 
     // A state is pushed for the start, and at most one for each edge that is examined. Each is popped once
     // at most.
     ensures pushed { work.new.pushes ≤ length work.new.examined + 1 }
     ensures few { length heap.new.items ≤ length work.new.examined + 1 }
-    ensures counted { RisesWithin heap.old.comparisons heap.new.comparisons ((length work.new.examined + 1) * (push_bound 3 (length work.new.examined) + pop_bound 3 (length work.new.examined + 1))) }
+    ensures counted { RisesWithin heap.old.comparisons heap.new.comparisons
+        ((length work.new.examined + 1)
+        * (push_bound 3 (length work.new.examined) + pop_bound 3 (length work.new.examined + 1))) }
 {
     // What a walk to each node was found to cost so far, and the greatest number if none was found.
     let Ok(mut found) = vec![in alloc; usize::MAX; adj_list.len()] else {
@@ -219,11 +229,16 @@ fn relax(
     work: &mut Work,
 ) -> Result<(), PathRefusal>
     requires { All (λ edge. edge.node < length found.old.items) edges.now.items }
-    ensures ok { OnOk result (Relaxes usize.MAX cost edges.now.items found.old.items heap.old.items found.new.items heap.new.items) }
-    ensures too_large { IfErr result (λ refusal. refusal ≡ CostTooLarge → HasTooLarge usize.MAX cost edges.now.items) }
-    ensures no_memory { IfErr result (λ refusal. refusal ≡ NoMemory → length heap.new.items ≡ heap.new.capacity) }
-    ensures once { AreExamined edges.now.items work.old.examined work.new.examined heap.old heap.new }
-    ensures pushed { work.new.pushes + length work.old.examined ≤ work.old.pushes + length work.new.examined }
+    ensures ok { OnOk result (Relaxes usize.MAX cost edges.now.items
+        found.old.items heap.old.items found.new.items heap.new.items) }
+    ensures too_large { IfErr result
+        (λ refusal. refusal ≡ CostTooLarge → HasTooLarge usize.MAX cost edges.now.items) }
+    ensures no_memory { IfErr result
+        (λ refusal. refusal ≡ NoMemory → length heap.new.items ≡ heap.new.capacity) }
+    ensures once { AreExamined edges.now.items work.old.examined work.new.examined
+        heap.old heap.new }
+    ensures pushed { work.new.pushes + length work.old.examined
+        ≤ work.old.pushes + length work.new.examined }
     ensures all { OnOk result (work.new.examined ≡ work.old.examined ++ edges.now.items) }
 {
     for edge in edges {
@@ -242,9 +257,12 @@ fn examine(
     work: &mut Work,
 ) -> Result<(), PathRefusal>
     requires { edge.node < length found.old.items }
-    ensures ok { OnOk result (Relaxes usize.MAX cost (edge ∷ []) found.old.items heap.old.items found.new.items heap.new.items) }
-    ensures too_large { IfErr result (λ refusal. refusal ≡ CostTooLarge → usize.MAX ≤ cost + edge.cost) }
-    ensures no_memory { IfErr result (λ refusal. refusal ≡ NoMemory → length heap.new.items ≡ heap.new.capacity) }
+    ensures ok { OnOk result (Relaxes usize.MAX cost (edge ∷ [])
+        found.old.items heap.old.items found.new.items heap.new.items) }
+    ensures too_large { IfErr result
+        (λ refusal. refusal ≡ CostTooLarge → usize.MAX ≤ cost + edge.cost) }
+    ensures no_memory { IfErr result
+        (λ refusal. refusal ≡ NoMemory → length heap.new.items ≡ heap.new.capacity) }
     ensures examined { work.new.examined ≡ work.old.examined ++ edge ∷ [] }
     ensures pushed { work.new.pushes ≤ work.old.pushes + 1 }
     ensures pushes { Pushes 1 heap.old heap.new }

@@ -48,8 +48,10 @@ type Candidates = OctonaryHeap<Reverse<(u32, usize)>>;
 ///
 /// For `n` pieces at most `3 (n - 1)` pushes and as many pops of a heap of arity 8 with fewer than `2 n` candidates.
 pub fn merge_pieces(alloc: Global, pieces: &[u32], merges: &Merges) -> Result<Vec<u32>, AllocError>
-    ensures merged { IfOk result (λ merged. IsMerged (table_of merges.now) pieces.now merged.items) }
-    ensures only { IfOk result (λ merged. (last : List ℕ) → IsMerged (table_of merges.now) pieces.now last → last ≡ merged.items) }
+    ensures merged { IfOk result
+        (λ merged. IsMerged (table_of merges.now) pieces.now merged.items) }
+    ensures only { IfOk result (λ merged. (last : List ℕ)
+        → IsMerged (table_of merges.now) pieces.now last → last ≡ merged.items) }
     ensures succeeds { pieces.now ≡ [] → IsOk result }
 {
     let mut links = link_all(alloc, pieces)?;
@@ -82,7 +84,9 @@ fn merge_links(merges: &Merges, links: &mut [Link], candidates: &mut Candidates)
     requires empty { candidates.old.items ≡ [] }
     requires room { 2 * (length links.old - 1) ≤ candidates.old.capacity }
     ensures merged { IsMerged (table_of merges.now) (word_of links.old) (word_of links.new) }
-    ensures counted { RisesWithin candidates.old.comparisons candidates.new.comparisons (3 * (length links.old - 1) * (push_bound 8 (2 * length links.old) + pop_bound 8 (2 * length links.old))) }
+    ensures counted { RisesWithin candidates.old.comparisons candidates.new.comparisons
+        (3 * (length links.old - 1)
+        * (push_bound 8 (2 * length links.old) + pop_bound 8 (2 * length links.old))) }
 {
     offer_all(merges, links, candidates);
     merge_all(merges, links, candidates);
@@ -96,7 +100,8 @@ fn offer_all(merges: &Merges, links: &[Link], candidates: &mut Candidates)
     ensures offered { IsOffered (table_of merges.now) links.now candidates.new.items }
     ensures len { length candidates.new.items ≤ length links.now - 1 }
     ensures capacity { candidates.new.capacity ≡ candidates.old.capacity }
-    ensures counted { RisesWithin candidates.old.comparisons candidates.new.comparisons ((length links.now - 1) * push_bound 8 (length links.now)) }
+    ensures counted { RisesWithin candidates.old.comparisons candidates.new.comparisons
+        ((length links.now - 1) * push_bound 8 (length links.now)) }
 {
     for place in 1..links.len() {
         offer(merges, links, place - 1, candidates);
@@ -107,9 +112,11 @@ fn offer_all(merges: &Merges, links: &[Link], candidates: &mut Candidates)
 fn merge_all(merges: &Merges, links: &mut [Link], candidates: &mut Candidates)
     requires linked { IsLinked links.old }
     requires offered { IsOffered (table_of merges.now) links.old candidates.old.items }
-    requires room { length candidates.old.items + length (word_of links.old) ≤ candidates.old.capacity + 1 }
+    requires room { length candidates.old.items + length (word_of links.old)
+        ≤ candidates.old.capacity + 1 }
     ensures merged { IsMerged (table_of merges.now) (word_of links.old) (word_of links.new) }
-    ensures counted { RisesWithin candidates.old.comparisons candidates.new.comparisons (merging_bound (length candidates.old.items) (length (word_of links.old))) }
+    ensures counted { RisesWithin candidates.old.comparisons candidates.new.comparisons
+        (merging_bound (length candidates.old.items) (length (word_of links.old))) }
 {
     while let Some(Reverse((rank, place))) = candidates.pop() {
         merge_candidate(merges, links, candidates, rank, place);
@@ -126,18 +133,25 @@ fn merge_candidate(
     place: usize,
 )
     requires linked { IsLinked links.old }
-    requires offered { IsOffered (table_of merges.now) links.old (candidate rank place ∷ candidates.old.items) }
+    requires offered { IsOffered (table_of merges.now) links.old
+        (candidate rank place ∷ candidates.old.items) }
     requires first { IsFirst rank place candidates.old.items }
-    requires room { length candidates.old.items + length (word_of links.old) ≤ candidates.old.capacity }
+    requires room { length candidates.old.items + length (word_of links.old)
+        ≤ candidates.old.capacity }
     ensures linked { IsLinked links.new }
-    ensures merged { (steps : ℕ) × LeadsTo (table_of merges.now) steps (word_of links.old) (word_of links.new) }
+    ensures merged { (steps : ℕ)
+        × LeadsTo (table_of merges.now) steps (word_of links.old) (word_of links.new) }
     ensures offered { IsOffered (table_of merges.now) links.new candidates.new.items }
     ensures left { 0 < length (word_of links.old) → 0 < length (word_of links.new) }
     ensures shorter { length (word_of links.new) ≤ length (word_of links.old) }
-    ensures fewer { length candidates.new.items + 2 * length (word_of links.new) ≤ length candidates.old.items + 2 * length (word_of links.old) }
-    ensures one_more { length candidates.new.items + length (word_of links.new) ≤ length candidates.old.items + length (word_of links.old) + 1 }
+    ensures fewer { length candidates.new.items + 2 * length (word_of links.new)
+        ≤ length candidates.old.items + 2 * length (word_of links.old) }
+    ensures one_more { length candidates.new.items + length (word_of links.new)
+        ≤ length candidates.old.items + length (word_of links.old) + 1 }
     ensures capacity { candidates.new.capacity ≡ candidates.old.capacity }
-    ensures counted { RisesWithin candidates.old.comparisons candidates.new.comparisons (2 * (length (word_of links.old) - length (word_of links.new)) * push_bound 8 (length candidates.old.items + 1)) }
+    ensures counted { RisesWithin candidates.old.comparisons candidates.new.comparisons
+        (2 * (length (word_of links.old) - length (word_of links.new))
+        * push_bound 8 (length candidates.old.items + 1)) }
 {
     let Some(merge) = merge_at(merges, links, place) else {
         return;
@@ -152,11 +166,14 @@ fn merge_candidate(
 /// Adds the pair at a place to the candidates if it has a rank.
 fn offer(merges: &Merges, links: &[Link], place: usize, candidates: &mut Candidates)
     requires room { length candidates.old.items < candidates.old.capacity }
-    ensures offered { (merge : Merge) → standing (table_of merges.now) links.now place ≡ Some merge → Contains candidates.new.items (candidate merge.rank place) }
-    ensures kept { (other : Reverse (ℕ × ℕ)) → Contains candidates.old.items other → Contains candidates.new.items other }
+    ensures offered { (merge : Merge) → standing (table_of merges.now) links.now place ≡ Some merge
+        → Contains candidates.new.items (candidate merge.rank place) }
+    ensures kept { (other : Reverse (ℕ × ℕ)) → Contains candidates.old.items other
+        → Contains candidates.new.items other }
     ensures len { length candidates.new.items ≤ length candidates.old.items + 1 }
     ensures capacity { candidates.new.capacity ≡ candidates.old.capacity }
-    ensures counted { RisesWithin candidates.old.comparisons candidates.new.comparisons (push_bound 8 (length candidates.old.items)) }
+    ensures counted { RisesWithin candidates.old.comparisons candidates.new.comparisons
+        (push_bound 8 (length candidates.old.items)) }
 {
     if let Some(merge) = merge_at(merges, links, place) {
         candidates.push(Reverse((merge.rank, place))).unwrap();

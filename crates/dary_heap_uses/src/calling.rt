@@ -21,7 +21,8 @@ pub fn heap_of(alloc: Global, number: u32) -> Result<TernaryHeap<u32>, u32>
 /// Takes the greatest number out if it is at least the bound.
 pub fn take_from(heap: &mut TernaryHeap<u32>, bound: u32) -> Option<u32>
     ensures reached { IfSome result (λ number. bound ≤ number) }
-    ensures first { (number : ℕ) → front heap.old.items ≡ Some number → bound ≤ number → result ≡ Some number }
+    ensures first { (number : ℕ) → front heap.old.items ≡ Some number → bound ≤ number
+        → result ≡ Some number }
     ensures bag { IfSome result (λ number. IsSameBag heap.old.items (number ∷ heap.new.items)) }
     ensures unchanged { IfNone result (heap.new ≡ heap.old) }
 {
@@ -34,8 +35,10 @@ pub fn take_from(heap: &mut TernaryHeap<u32>, bound: u32) -> Option<u32>
 /// Puts a number in the place of the greatest if it is less. So of all numbers that are offered, as many as
 /// the heap has stay, and they are the least.
 pub fn offer(least: &mut BinaryHeap<u32>, number: u32)
-    ensures taken { (most : ℕ) → front least.old.items ≡ Some most → number < most → IsSameBag (number ∷ drop 1 least.old.items) least.new.items }
-    ensures kept { (most : ℕ) → front least.old.items ≡ Some most → most ≤ number → least.new ≡ least.old }
+    ensures taken { (most : ℕ) → front least.old.items ≡ Some most → number < most
+        → IsSameBag (number ∷ drop 1 least.old.items) least.new.items }
+    ensures kept { (most : ℕ) → front least.old.items ≡ Some most → most ≤ number
+        → least.new ≡ least.old }
     ensures len { length least.new.items ≡ length least.old.items }
 {
     if let Some(mut most) = least.peek_mut() {
@@ -93,7 +96,8 @@ pub fn greatest_two<const D: usize>(heap: &mut DaryHeap<u32, D>) -> Option<(u32,
 /// Drops the numbers below the bound.
 #[tactic(auto, using(dary_heap::proofs::Callable::takes_in_turn))]
 pub fn keep_from(heap: &mut TernaryHeap<u32>, bound: u32)
-    ensures kept { IsSameBag (filter (λ number. nat_le bound number) heap.old.items) heap.new.items }
+    ensures kept { IsSameBag
+        (filter (λ number. nat_le bound number) heap.old.items) heap.new.items }
     ensures capacity { heap.new.capacity ≡ heap.old.capacity }
 {
     heap.retain(|number| bound <= *number);

@@ -32,7 +32,8 @@ use std::mem;
 pub fn push_pop<T: Ord + Drop, const D: usize>(heap: &mut DaryHeap<T, D>, item: T) -> T
     ensures bag { IsSameBag (item ∷ heap.old.items) (result ∷ heap.new.items) }
     ensures greatest { IsGreatest T.cmp (item ∷ heap.old.items) result }
-    ensures counted { RisesWithin heap.old.comparisons heap.new.comparisons (sink_bound D (length heap.old.items)) }
+    ensures counted { RisesWithin heap.old.comparisons heap.new.comparisons
+        (sink_bound D (length heap.old.items)) }
     ensures capacity { heap.new.capacity ≡ heap.old.capacity }
 {
     if let Some(mut greatest) = heap.peek_mut() {

@@ -46,8 +46,12 @@ pub fn greatest<T: Ord + Drop, I: IntoIterator<Item = T>, const D: usize>(
     stream: I,
     k: usize,
 ) -> Result<DaryHeap<Reverse<T>, D>, AllocError>
-    requires { (it : I.IntoIter) → I.into_iter_gives stream it → I.IntoIter.can_next it × IsFinite (I.IntoIter.remaining it) }
-    ensures { IfOk result (λ kept. (it : I.IntoIter) × (items : List T) × I.into_iter_gives stream it × Drains I.IntoIter.next_gives it items × KeepsGreatest T.cmp k items (values kept.items) × (kept.comparisons ≤ length items * (push_bound D k + pop_bound D k))) }
+    requires { (it : I.IntoIter) → I.into_iter_gives stream it → I.IntoIter.can_next it
+        × IsFinite (I.IntoIter.remaining it) }
+    ensures { IfOk result (λ kept. (it : I.IntoIter) × (items : List T)
+        × I.into_iter_gives stream it × Drains I.IntoIter.next_gives it items
+        × KeepsGreatest T.cmp k items (values kept.items)
+        × (kept.comparisons ≤ length items * (push_bound D k + pop_bound D k))) }
 {
     let mut kept = DaryHeap::new(alloc);
     for item in stream {
@@ -64,8 +68,11 @@ fn offer<T: Ord + Drop, const D: usize>(
     item: T,
 ) -> Result<(), AllocError>
     requires { length kept.old.items ≤ k }
-    ensures greatest { OnOk result ((items : List T) → KeepsGreatest T.cmp k items (values kept.old.items) → KeepsGreatest T.cmp k (items ++ item ∷ []) (values kept.new.items)) }
-    ensures counted { OnOk result (RisesWithin kept.old.comparisons kept.new.comparisons (push_bound D k + pop_bound D k)) }
+    ensures greatest { OnOk result ((items : List T)
+        → KeepsGreatest T.cmp k items (values kept.old.items)
+        → KeepsGreatest T.cmp k (items ++ item ∷ []) (values kept.new.items)) }
+    ensures counted { OnOk result
+        (RisesWithin kept.old.comparisons kept.new.comparisons (push_bound D k + pop_bound D k)) }
     ensures few { OnOk result (length kept.new.items ≤ k) }
 {
     if kept.len() < k {

@@ -37,7 +37,11 @@ impl<T: Ord, const D: usize> Model for LeastFirst<T, D> {
 
     ghost Value = { Contents T };
 
-    ghost view = { λ heap. record { items = map (λ r. r.0) heap.reversed.items; capacity = heap.reversed.capacity; comparisons = heap.reversed.comparisons } };
+    ghost view = { λ heap. record {
+      items = map (λ r. r.0) heap.reversed.items;
+      capacity = heap.reversed.capacity;
+      comparisons = heap.reversed.comparisons;
+    } };
 }
 
 impl<T: Ord, const D: usize> LeastFirst<T, D> {
@@ -82,9 +86,11 @@ impl<T: Ord, const D: usize> LeastFirst<T, D> {
     /// As many comparisons as a push onto a heap may take.
     pub fn push(&mut self, item: T) -> Result<(), T>
         ensures bag { OnOk result (IsSameBag (item ∷ self.old.items) self.new.items) }
-        ensures counted { OnOk result (RisesWithin self.old.comparisons self.new.comparisons (push_bound D (length self.old.items))) }
+        ensures counted { OnOk result (RisesWithin self.old.comparisons self.new.comparisons
+            (push_bound D (length self.old.items))) }
         ensures capacity { self.old.capacity ≤ self.new.capacity }
-        ensures kept { length self.old.items < self.old.capacity → self.new.capacity ≡ self.old.capacity }
+        ensures kept { length self.old.items < self.old.capacity
+            → self.new.capacity ≡ self.old.capacity }
         ensures succeeds { length self.old.items < self.old.capacity → IsOk result }
         ensures full { OnErr result (length self.old.items ≡ self.old.capacity) }
         ensures returned { IfErr result (λ back. back ≡ item) }
@@ -105,7 +111,8 @@ impl<T: Ord, const D: usize> LeastFirst<T, D> {
         ensures variant { IsSome result ↔ (0 < length self.old.items) }
         ensures least { IfSome result (IsLeast T.cmp self.old.items) }
         ensures bag { IfSome result (λ item. IsSameBag self.old.items (item ∷ self.new.items)) }
-        ensures counted { RisesWithin self.old.comparisons self.new.comparisons (pop_bound D (length self.old.items)) }
+        ensures counted { RisesWithin self.old.comparisons self.new.comparisons
+            (pop_bound D (length self.old.items)) }
         ensures capacity { self.new.capacity ≡ self.old.capacity }
         ensures unchanged { IfNone result (self.new ≡ self.old) }
     {

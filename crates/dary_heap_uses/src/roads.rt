@@ -59,8 +59,10 @@ pub fn shortest_route(
     requires roads { IsJoining places roads.now }
     requires start { start < places }
     ensures shortest { IfOk result (λ answer. IfSome answer (IsShortest roads.now start end)) }
-    ensures none { IfOk result (λ answer. IfNone answer ((route : _) → IsRoute roads.now start route end → ⊥)) }
-    ensures too_long { IfErr result (λ refusal. refusal ≡ CostTooLarge → HasTooLong usize.MAX roads.now start end) }
+    ensures none { IfOk result
+        (λ answer. IfNone answer ((route : _) → IsRoute roads.now start route end → ⊥)) }
+    ensures too_long { IfErr result
+        (λ refusal. refusal ≡ CostTooLarge → HasTooLong usize.MAX roads.now start end) }
 {
     let Ok(edges) = edges_of(alloc, places, roads) else {
         return Err(PathRefusal::NoMemory);

@@ -108,7 +108,8 @@ impl<J> Scheduler<J> {
     /// Returns the job if all room is in use. Nothing has changed then.
     pub fn add(&mut self, priority: u32, job: J) -> Result<(), J>
         requires { self.old.came < u64.MAX }
-        ensures waits { OnOk result (IsSameBag (waiting priority self.old.came job ∷ self.old.waiting) self.new.waiting) }
+        ensures waits { OnOk result
+            (IsSameBag (waiting priority self.old.came job ∷ self.old.waiting) self.new.waiting) }
         ensures came { OnOk result (self.new.came ≡ self.old.came + 1) }
         ensures room { self.new.room ≡ self.old.room }
 

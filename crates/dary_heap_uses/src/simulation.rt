@@ -60,9 +60,15 @@ impl Model for Simulation {
 
     ghost Value = { Agenda };
 
-    ghost view = { λ simulation. record { moment = simulation.moment; waiting = map (λ event. event.0) simulation.waiting.items; room = simulation.waiting.capacity; comparisons = simulation.waiting.comparisons } };
+    ghost view = { λ simulation. record {
+      moment = simulation.moment;
+      waiting = map (λ event. event.0) simulation.waiting.items;
+      room = simulation.waiting.capacity;
+      comparisons = simulation.waiting.comparisons;
+    } };
 
-    ghost invariant = { λ simulation. All (λ event. simulation.moment ≤ event.moment) (map (λ event. event.0) simulation.waiting.items) };
+    ghost invariant = { λ simulation. All (λ event. simulation.moment ≤ event.moment)
+        (map (λ event. event.0) simulation.waiting.items) };
 }
 
 impl Simulation {
@@ -124,7 +130,8 @@ impl Simulation {
         requires { self.old.moment ≤ event.moment }
         ensures scheduled { OnOk result (IsSameBag (event ∷ self.old.waiting) self.new.waiting) }
         ensures moment { self.new.moment ≡ self.old.moment }
-        ensures counted { OnOk result (RisesWithin self.old.comparisons self.new.comparisons (push_bound 3 (length self.old.waiting))) }
+        ensures counted { OnOk result (RisesWithin self.old.comparisons self.new.comparisons
+            (push_bound 3 (length self.old.waiting))) }
         ensures room { self.old.room ≤ self.new.room }
         ensures kept { length self.old.waiting < self.old.room → self.new.room ≡ self.old.room }
 
@@ -159,11 +166,17 @@ impl Simulation {
         end: u64,
         budget: u64,
     ) -> Result<u64, Vec<Event>>
-        ensures ran { IfOk result (λ count. (steps : List Step) × (length steps ≡ count) × IsRun H.handles end self.old handler.old steps [] self.new handler.new) }
+        ensures ran { IfOk result (λ count. (steps : List Step) × (length steps ≡ count)
+            × IsRun H.handles end self.old handler.old steps [] self.new handler.new) }
         ensures within { IfOk result (λ count. count ≤ budget) }
-        ensures ended { IfOk result (λ count. count < budget → All (λ event. end < event.moment) self.new.waiting) }
-        ensures full { IfErr result (λ back. self.new.room < length self.new.waiting + length back.items) }
-        ensures refused { IfErr result (λ back. (steps : List Step) × (last : Step) × (length steps < budget) × (back.items ≡ last.scheduled) × IsRun H.handles end self.old handler.old (steps ++ last ∷ []) back.items self.new handler.new) }
+        ensures ended { IfOk result
+            (λ count. count < budget → All (λ event. end < event.moment) self.new.waiting) }
+        ensures full { IfErr result
+            (λ back. self.new.room < length self.new.waiting + length back.items) }
+        ensures refused { IfErr result (λ back. (steps : List Step) × (last : Step)
+            × (length steps < budget) × (back.items ≡ last.scheduled)
+            × IsRun H.handles end self.old handler.old (steps ++ last ∷ []) back.items
+            self.new handler.new) }
     {
         for handled in 0..budget {
             let Some(event) = self.take_next(end) else {
@@ -179,8 +192,10 @@ impl Simulation {
         ensures forward { IfSome result (λ event. self.old.moment ≤ event.moment) }
         ensures present { IfSome result (λ event. self.new.moment ≡ event.moment) }
         ensures up_to_end { IfSome result (λ event. event.moment ≤ end) }
-        ensures taken { IfSome result (λ event. IsSameBag self.old.waiting (event ∷ self.new.waiting)) }
-        ensures counted { RisesWithin self.old.comparisons self.new.comparisons (pop_bound 3 (length self.old.waiting)) }
+        ensures taken { IfSome result
+            (λ event. IsSameBag self.old.waiting (event ∷ self.new.waiting)) }
+        ensures counted { RisesWithin self.old.comparisons self.new.comparisons
+            (pop_bound 3 (length self.old.waiting)) }
         ensures room { self.new.room ≡ self.old.room }
         ensures none { IfNone result (All (λ event. end < event.moment) self.old.waiting) }
         ensures unchanged { IfNone result (self.new ≡ self.old) }
@@ -194,10 +209,13 @@ impl Simulation {
     /// has changed.
     fn schedule_all(&mut self, events: Vec<Event>) -> Result<(), Vec<Event>>
         requires { All (λ event. self.old.moment ≤ event.moment) events.items }
-        ensures scheduled { OnOk result (IsSameBag (events.items ++ self.old.waiting) self.new.waiting) }
+        ensures scheduled { OnOk result
+            (IsSameBag (events.items ++ self.old.waiting) self.new.waiting) }
         ensures moment { self.new.moment ≡ self.old.moment }
-        ensures counted { OnOk result (RisesWithin self.old.comparisons self.new.comparisons (pushes_bound (length self.old.waiting) (length events.items))) }
-        ensures full { OnErr result (self.old.room < length self.old.waiting + length events.items) }
+        ensures counted { OnOk result (RisesWithin self.old.comparisons self.new.comparisons
+            (pushes_bound (length self.old.waiting) (length events.items))) }
+        ensures full { OnErr result
+            (self.old.room < length self.old.waiting + length events.items) }
         ensures returned { IfErr result (λ back. back.items ≡ events.items) }
         ensures unchanged { OnErr result (self.new ≡ self.old) }
     {
@@ -212,8 +230,10 @@ impl Simulation {
 /// Adds all these events, for which there is room.
 fn push_all(waiting: &mut TernaryHeap<Reverse<Event>>, events: &[Event])
     requires { length waiting.old.items + length events.now ≤ waiting.old.capacity }
-    ensures came { IsSameBag (events.now ++ map (λ event. event.0) waiting.old.items) (map (λ event. event.0) waiting.new.items) }
-    ensures counted { RisesWithin waiting.old.comparisons waiting.new.comparisons (pushes_bound (length waiting.old.items) (length events.now)) }
+    ensures came { IsSameBag (events.now ++ map (λ event. event.0) waiting.old.items)
+        (map (λ event. event.0) waiting.new.items) }
+    ensures counted { RisesWithin waiting.old.comparisons waiting.new.comparisons
+        (pushes_bound (length waiting.old.items) (length events.now)) }
 {
     for event in events {
         waiting.push(Reverse(*event)).unwrap();

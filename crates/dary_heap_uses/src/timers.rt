@@ -47,7 +47,11 @@ impl Model for TimerQueue {
 
     ghost Value = { Timers };
 
-    ghost view = { λ queue. record { set = map (λ timer. timer.0) queue.waiting.items; room = queue.waiting.capacity; comparisons = queue.waiting.comparisons } };
+    ghost view = { λ queue. record {
+      set = map (λ timer. timer.0) queue.waiting.items;
+      room = queue.waiting.capacity;
+      comparisons = queue.waiting.comparisons;
+    } };
 }
 
 impl TimerQueue {
@@ -91,7 +95,8 @@ impl TimerQueue {
     /// At most as many comparisons as a push onto the timers that are set.
     pub fn set(&mut self, timer: Timer) -> Result<(), Timer>
         ensures set { OnOk result (IsSameBag (timer ∷ self.old.set) self.new.set) }
-        ensures counted { OnOk result (RisesWithin self.old.comparisons self.new.comparisons (push_bound 4 (length self.old.set))) }
+        ensures counted { OnOk result (RisesWithin self.old.comparisons self.new.comparisons
+            (push_bound 4 (length self.old.set))) }
         ensures room { self.old.room ≤ self.new.room }
         ensures kept { length self.old.set < self.old.room → self.new.room ≡ self.old.room }
 
@@ -118,7 +123,8 @@ impl TimerQueue {
         ensures earliest { IfSome result (IsEarliest self.old.set) }
         ensures due { IfSome result (λ timer. timer.moment ≤ now) }
         ensures taken { IfSome result (λ timer. IsSameBag self.old.set (timer ∷ self.new.set)) }
-        ensures counted { RisesWithin self.old.comparisons self.new.comparisons (pop_bound 4 (length self.old.set)) }
+        ensures counted { RisesWithin self.old.comparisons self.new.comparisons
+            (pop_bound 4 (length self.old.set)) }
         ensures room { self.new.room ≡ self.old.room }
         ensures none_due { IfNone result (All (λ timer. now < timer.moment) self.old.set) }
         ensures unchanged { IfNone result (self.new ≡ self.old) }
@@ -139,10 +145,13 @@ impl TimerQueue {
     /// For each timer that is taken at most as many comparisons as a pop of the timers that are
     /// still set.
     pub fn take_due(&mut self, now: u64, due: &mut Vec<Timer>) -> Result<(), AllocError>
-        ensures taken { OnOk result (AddsDue now self.old.set self.new.set due.old.items due.new.items) }
-        ensures counted { RisesWithin self.old.comparisons self.new.comparisons (pops_bound 4 (length self.old.set) - pops_bound 4 (length self.new.set)) }
+        ensures taken { OnOk result
+            (AddsDue now self.old.set self.new.set due.old.items due.new.items) }
+        ensures counted { RisesWithin self.old.comparisons self.new.comparisons
+            (pops_bound 4 (length self.old.set) - pops_bound 4 (length self.new.set)) }
         ensures room { self.new.room ≡ self.old.room }
-        ensures succeeds { vec_len due.old + length self.old.set ≤ vec_capacity due.old → IsOk result }
+        ensures succeeds { vec_len due.old + length self.old.set ≤ vec_capacity due.old
+            → IsOk result }
         ensures unchanged { OnErr result (self.new ≡ self.old) }
         ensures none_added { OnErr result (due.new.items ≡ due.old.items) }
     {

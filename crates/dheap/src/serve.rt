@@ -59,11 +59,15 @@ pub fn serve<R: Read, W: Write, E: Write>(
 
     // If a line may be bad, all lines were read, and nothing was written.
     ensures whole { result < 2 → IsAtEnd (R.remaining input.new) }
-    ensures silent { 0 < result → result < 3 → Keeps (W.contents output.old) (W.contents output.new) }
+    ensures silent { 0 < result → result < 3
+        → Keeps (W.contents output.old) (W.contents output.new) }
 
     // If it is known what is read: a line is bad, or all are good and their answers are written.
-    ensures bad { result ≡ 1 → IfSome (R.remaining input.old) (λ script. (number : ℕ) × IsFirstBad (lines_of script) number) }
-    ensures printed { result ≡ 0 → IfSome (R.remaining input.old) (λ script. (printed : List ℕ) × MayPrint script printed × Appends (W.contents output.old) (W.contents output.new) printed) }
+    ensures bad { result ≡ 1 → IfSome (R.remaining input.old)
+        (λ script. (number : ℕ) × IsFirstBad (lines_of script) number) }
+    ensures printed { result ≡ 0 → IfSome (R.remaining input.old)
+        (λ script. (printed : List ℕ) × MayPrint script printed
+        × Appends (W.contents output.old) (W.contents output.new) printed) }
 {
     match answer_all(alloc, words, input, output) {
         Ok(()) => 0,
@@ -77,13 +81,18 @@ fn answer_all<R: Read, W: Write>(
     input: &mut R,
     output: &mut W,
 ) -> Result<(), Fault>
-    ensures usage { IfErr result (λ fault. (status_of fault ≡ 2) ↔ ((d : ℕ) → ¬ (IsArity (map string_bytes words.now) d))) }
+    ensures usage { IfErr result
+        (λ fault. (status_of fault ≡ 2) ↔ ((d : ℕ) → ¬ (IsArity (map string_bytes words.now) d))) }
     ensures named { OnOk result ((d : ℕ) × IsArity (map string_bytes words.now) d) }
     ensures whole { OnOk result (IsAtEnd (R.remaining input.new)) }
     ensures read { IfErr result (λ fault. status_of fault ≡ 1 → IsAtEnd (R.remaining input.new)) }
-    ensures bad { IfErr result (λ fault. status_of fault ≡ 1 → IfSome (R.remaining input.old) (λ script. (number : ℕ) × (fault ≡ BadLine number) × IsFirstBad (lines_of script) number)) }
-    ensures printed { OnOk result (IfSome (R.remaining input.old) (λ script. (printed : List ℕ) × MayPrint script printed × Appends (W.contents output.old) (W.contents output.new) printed)) }
-    ensures silent { IfErr result (λ fault. status_of fault < 3 → Keeps (W.contents output.old) (W.contents output.new)) }
+    ensures bad { IfErr result (λ fault. status_of fault ≡ 1 → IfSome (R.remaining input.old)
+        (λ script. (number : ℕ) × (fault ≡ BadLine number) × IsFirstBad (lines_of script) number)) }
+    ensures printed { OnOk result (IfSome (R.remaining input.old)
+        (λ script. (printed : List ℕ) × MayPrint script printed
+        × Appends (W.contents output.old) (W.contents output.new) printed)) }
+    ensures silent { IfErr result
+        (λ fault. status_of fault < 3 → Keeps (W.contents output.old) (W.contents output.new)) }
 {
     let Some(arity) = arity(words) else {
         return Err(Fault::Usage);
@@ -101,9 +110,12 @@ fn answer_at<W: Write>(
     output: &mut W,
 ) -> Result<(), Fault>
     ensures usage { IfErr result (λ fault. status_of fault ≢ 2) }
-    ensures bad { IfErr result (λ fault. status_of fault ≡ 1 → (number : ℕ) × (fault ≡ BadLine number) × IsFirstBad (lines_of script.items) number) }
-    ensures printed { OnOk result ((printed : List ℕ) × MayPrint script.items printed × Appends (W.contents output.old) (W.contents output.new) printed) }
-    ensures silent { IfErr result (λ fault. status_of fault < 3 → Keeps (W.contents output.old) (W.contents output.new)) }
+    ensures bad { IfErr result (λ fault. status_of fault ≡ 1 → (number : ℕ)
+        × (fault ≡ BadLine number) × IsFirstBad (lines_of script.items) number) }
+    ensures printed { OnOk result ((printed : List ℕ) × MayPrint script.items printed
+        × Appends (W.contents output.old) (W.contents output.new) printed) }
+    ensures silent { IfErr result
+        (λ fault. status_of fault < 3 → Keeps (W.contents output.old) (W.contents output.new)) }
 {
     match arity {
         1 => answer::<W, 1>(alloc, script, output),
@@ -119,7 +131,8 @@ fn answer_at<W: Write>(
 
 /// The arity that the arguments name, if they are one digit from `1` to `8`.
 fn arity(words: &[String]) -> Option<u8>
-    ensures { MatchOption result ((d : ℕ) → ¬ (IsArity (map string_bytes words.now) d)) (IsArity (map string_bytes words.now)) }
+    ensures { MatchOption result ((d : ℕ) → ¬ (IsArity (map string_bytes words.now) d))
+        (IsArity (map string_bytes words.now)) }
 {
     let [word] = words else {
         return None;
@@ -137,12 +150,16 @@ fn answer<W: Write, const D: usize>(
     output: &mut W,
 ) -> Result<(), Fault>
     ensures usage { IfErr result (λ fault. status_of fault ≢ 2) }
-    ensures bad { IfErr result (λ fault. status_of fault ≡ 1 → (number : ℕ) × (fault ≡ BadLine number) × IsFirstBad (lines_of script.items) number) }
-    ensures printed { OnOk result ((printed : List ℕ) × MayPrint script.items printed × Appends (W.contents output.old) (W.contents output.new) printed) }
-    ensures silent { IfErr result (λ fault. status_of fault < 3 → Keeps (W.contents output.old) (W.contents output.new)) }
+    ensures bad { IfErr result (λ fault. status_of fault ≡ 1 → (number : ℕ)
+        × (fault ≡ BadLine number) × IsFirstBad (lines_of script.items) number) }
+    ensures printed { OnOk result ((printed : List ℕ) × MayPrint script.items printed
+        × Appends (W.contents output.old) (W.contents output.new) printed) }
+    ensures silent { IfErr result
+        (λ fault. status_of fault < 3 → Keeps (W.contents output.old) (W.contents output.new)) }
 
     // If the output failed, the whole run went well before.
-    ensures ran { IfErr result (λ fault. status_of fault ≡ 4 → (printed : List ℕ) × MayPrint script.items printed) }
+    ensures ran { IfErr result
+        (λ fault. status_of fault ≡ 4 → (printed : List ℕ) × MayPrint script.items printed) }
 {
     let commands = commands(
         alloc,
@@ -166,9 +183,11 @@ fn commands<const D: usize, P: FnMut(&i64) -> bool + Drop, F: Fn(i64) -> P>(
     at_least: F,
 ) -> Result<Vec<Command<i64, D, P>>, Fault>
     requires { F.IsAlwaysCallable at_least }
-    ensures said { IfOk result (λ commands. (lines : List Line) × Say (lines_of script.now) lines × CarryOut (λ n p. F.post at_least n p) (read.commands commands.items) lines) }
+    ensures said { IfOk result (λ commands. (lines : List Line) × Say (lines_of script.now) lines
+        × CarryOut (λ n p. F.post at_least n p) (read.commands commands.items) lines) }
     ensures fault { IfErr result (λ fault. (status_of fault ≡ 1) ⊎ (status_of fault ≡ 3)) }
-    ensures bad { IfErr result (λ fault. status_of fault ≡ 1 → (number : ℕ) × (fault ≡ BadLine number) × IsFirstBad (lines_of script.now) number) }
+    ensures bad { IfErr result (λ fault. status_of fault ≡ 1 → (number : ℕ)
+        × (fault ≡ BadLine number) × IsFirstBad (lines_of script.now) number) }
 {
     let mut commands = Vec::new(alloc);
     let mut rest = Some(script);
@@ -189,8 +208,10 @@ fn commands<const D: usize, P: FnMut(&i64) -> bool + Drop, F: Fn(i64) -> P>(
 
 /// Reads the first line, unless it is bad, and gives what comes after its line feed.
 fn read_line(script: &[u8]) -> Option<(Line, Option<&[u8]>)>
-    ensures bad { IfNone result ((text : List ℕ) × (rest : List (List ℕ)) × (lines_of script.now ≡ text ∷ rest) × ((line : Line) → ¬ (Says (words_of text) line))) }
-    ensures said { IfSome result (λ read. (text : List ℕ) × (lines_of script.now ≡ text ∷ lines_left read.1) × Says (words_of text) read.0) }
+    ensures bad { IfNone result ((text : List ℕ) × (rest : List (List ℕ))
+        × (lines_of script.now ≡ text ∷ rest) × ((line : Line) → ¬ (Says (words_of text) line))) }
+    ensures said { IfSome result (λ read. (text : List ℕ)
+        × (lines_of script.now ≡ text ∷ lines_left read.1) × Says (words_of text) read.0) }
 {
     if let Some((line, rest)) = line::plain(script) {
         return Some((line, Some(rest)));
@@ -215,7 +236,8 @@ fn command<const D: usize, P: FnMut(&i64) -> bool, F: Fn(i64) -> P>(
     at_least: &F,
 ) -> Option<Command<i64, D, P>>
     requires { F.IsAlwaysCallable at_least.now }
-    ensures { CarryOutLine (λ n p. F.post at_least.now n p) (map read.command (option_to_list result)) line }
+    ensures { CarryOutLine (λ n p. F.post at_least.now n p)
+        (map read.command (option_to_list result)) line }
 {
     match line {
         Line::Blank => None,
@@ -237,9 +259,12 @@ fn write_replies<W: Write, const D: usize>(
     output: &mut W,
 ) -> Result<(), Fault>
     ensures fault { IfErr result (λ fault. 3 ≤ status_of fault) }
-    ensures whole { OnOk result (All (λ reply. is_some (answer reply) ≡ true) (read.replies replies.now)) }
-    ensures written { OnOk result (Appends (W.contents output.old) (W.contents output.new) (text (read.replies replies.now))) }
-    ensures ran { IfErr result (λ fault. status_of fault ≡ 4 → All (λ reply. is_some (answer reply) ≡ true) (read.replies replies.now)) }
+    ensures whole { OnOk result
+        (All (λ reply. is_some (answer reply) ≡ true) (read.replies replies.now)) }
+    ensures written { OnOk result (Appends (W.contents output.old) (W.contents output.new)
+        (text (read.replies replies.now))) }
+    ensures ran { IfErr result (λ fault. status_of fault ≡ 4
+        → All (λ reply. is_some (answer reply) ≡ true) (read.replies replies.now)) }
 {
     match write_answers(alloc, replies, output) {
         Ok(()) => Ok(()),
@@ -255,8 +280,10 @@ fn write_answers<W: Write, const D: usize>(
     output: &mut W,
 ) -> Result<(), Fault>
     ensures fault { IfErr result (λ fault. 3 ≤ status_of fault) }
-    ensures whole { OnOk result (All (λ reply. is_some (answer reply) ≡ true) (read.replies replies.now)) }
-    ensures written { OnOk result (Appends (W.contents output.old) (W.contents output.new) (text (read.replies replies.now))) }
+    ensures whole { OnOk result
+        (All (λ reply. is_some (answer reply) ≡ true) (read.replies replies.now)) }
+    ensures written { OnOk result (Appends (W.contents output.old) (W.contents output.new)
+        (text (read.replies replies.now))) }
 {
     let mut held = Vec::new(alloc);
     for reply in replies {
@@ -287,7 +314,8 @@ fn has_answer<const D: usize>(reply: &Reply<i64, D>) -> bool
 
 /// Writes what is held back.
 fn pass_on<W: Write>(held: &mut Vec<u8>, output: &mut W) -> io::Result<()>
-    ensures passed { OnOk result (Appends (W.contents output.old) (W.contents output.new) held.old.items) }
+    ensures passed { OnOk result
+        (Appends (W.contents output.old) (W.contents output.new) held.old.items) }
     ensures none { OnOk result (held.new.items ≡ []) }
 {
     output.write_all(held.as_slice())?;
@@ -302,7 +330,8 @@ fn write_reply<const D: usize>(
     held: &mut Vec<u8>,
 ) -> Result<bool, AllocError>
     ensures told { IfOk result (λ told. told ≡ is_some (answer (read.reply reply.now))) }
-    ensures written { OnOk result (held.new.items ≡ held.old.items ++ line (answer (read.reply reply.now))) }
+    ensures written { OnOk result
+        (held.new.items ≡ held.old.items ++ line (answer (read.reply reply.now))) }
 {
     match reply {
         Reply::Pushed | Reply::Done => held.extend_from_slice(b"ok\n")?,
@@ -339,7 +368,8 @@ fn write_item(item: i64, after: u8, held: &mut Vec<u8>) -> Result<(), AllocError
 
 /// Adds a number, after a minus if it is negative, and a byte after it.
 fn write_number(negative: bool, size: u64, after: u8, held: &mut Vec<u8>) -> Result<(), AllocError>
-    ensures { OnOk result (held.new.items ≡ held.old.items ++ (sign_text negative ++ decimal size ++ after ∷ [])) }
+    ensures { OnOk result (held.new.items ≡ held.old.items
+        ++ (sign_text negative ++ decimal size ++ after ∷ [])) }
 {
     let mut line = [after; LONGEST];
     let digits = put_digits(size, &mut line);
@@ -374,7 +404,8 @@ fn put_digits(size: u64, line: &mut [u8; LONGEST]) -> usize
 /// Puts the two digits of a number before a place of a line.
 fn put_pair(number: u64, line: &mut [u8; LONGEST], end: usize)
     requires { (number < 100) × (2 ≤ end) × (end ≤ 22) }
-    ensures put { drop (end - 2) line.new ≡ (48 + number / 10) ∷ (48 + number % 10) ∷ drop end line.old }
+    ensures put { drop (end - 2) line.new ≡ (48 + number / 10) ∷ (48 + number % 10)
+        ∷ drop end line.old }
 {
     let place = number as usize * 2;
     let (tens, units) = (PAIRS[place], PAIRS[place + 1]);

@@ -171,7 +171,8 @@ impl<T: Ord, const D: usize> DaryHeap<T, D> {
     ///
     /// No comparison.
     pub fn shrink_to(&mut self, min_capacity: usize) -> Result<(), AllocError>
-        ensures { Shrinks T.cmp D (max (length self.old.items) min_capacity) self.old self.new result }
+        ensures { Shrinks T.cmp D
+            (max (length self.old.items) min_capacity) self.old self.new result }
     {
         let wanted = self.items.len().max(min_capacity);
         self.items.shrink_to(min_capacity);

@@ -38,14 +38,19 @@ impl<T: Ord, const D: usize> DaryHeap<T, D> {
     ///
     /// At most as many comparisons as a [`pop`](DaryHeap::pop), and none if it returns `None`.
     pub fn pop_if<F: FnOnce(&T) -> bool>(&mut self, predicate: F) -> Option<T>
-        requires { (item : T) → slice_get self.old.items 0 ≡ Some item → FnOnceTakesAt F.FnOnce predicate item }
+        requires { (item : T) → slice_get self.old.items 0 ≡ Some item
+            → FnOnceTakesAt F.FnOnce predicate item }
         ensures empty { self.old.items ≡ [] → result ≡ None }
-        ensures asked { (item : T) → slice_get self.old.items 0 ≡ Some item → (answer : Bool) × FnOnceReturnsAt F.FnOnce predicate item answer × (result ≡ (if answer then Some item else None)) }
-        ensures shown { (item : T) → slice_get self.old.items 0 ≡ Some item → IsGreatest T.cmp self.old.items item }
+        ensures asked { (item : T) → slice_get self.old.items 0 ≡ Some item → (answer : Bool)
+            × FnOnceReturnsAt F.FnOnce predicate item answer
+            × (result ≡ (if answer then Some item else None)) }
+        ensures shown { (item : T) → slice_get self.old.items 0 ≡ Some item
+            → IsGreatest T.cmp self.old.items item }
         ensures greatest { IfSome result (IsGreatest T.cmp self.old.items) }
         ensures bag { IfSome result (λ item. IsSameBag self.old.items (item ∷ self.new.items)) }
         ensures ordered { IsHeapOrdered T.cmp D self.new.items }
-        ensures counted { RisesWithin self.old.comparisons self.new.comparisons (pop_bound D (length self.old.items)) }
+        ensures counted { RisesWithin self.old.comparisons self.new.comparisons
+            (pop_bound D (length self.old.items)) }
         ensures capacity { self.new.capacity ≡ self.old.capacity }
 
         // If nothing is popped nothing changes.
@@ -125,7 +130,10 @@ impl<T: Ord, const D: usize> DaryHeap<T, D> {
 /// first that was removed.
 fn keep<T: Drop, F: FnMut(&T) -> bool>(items: &mut Vec<T>, mut f: F) -> usize
     requires { TakesInTurn F.FnMut f items.old.items }
-    ensures kept { (answers : List Bool) × (after : F) × (length answers ≡ length items.old.items) × ReturnsInTurn (CalledAt F.FnMut) f answers items.old.items after × (items.new.items ≡ items_where_true answers items.old.items) × (result ≡ first_no answers) }
+    ensures kept { (answers : List Bool) × (after : F) × (length answers ≡ length items.old.items)
+        × ReturnsInTurn (CalledAt F.FnMut) f answers items.old.items after
+        × (items.new.items ≡ items_where_true answers items.old.items)
+        × (result ≡ first_no answers) }
     ensures capacity { vec_capacity items.new ≡ vec_capacity items.old }
 {
     let mut kept = 0;

@@ -2,12 +2,11 @@
 ghost use Rattle.std.specs.Prelude.{◌≡◌, ◌+◌, ◌-◌, ◌<◌, ◌≤◌, ◌++◌, [], ◌∷◌, length, min, List, map, vec_len, vec_capacity, IsOk, OnOk, OnErr, MatchResult, ⊤};
 ghost use Rattle.std.specs.Bool.{OnFalse};
 ghost use Rattle.std.specs.Iterator.{ExtendsWithItems, Drains, HoldsAlong, IsFinite};
-ghost use Rattle.std.specs.Borrow.{Bor};
 ghost use Rattle.dary_heap.specs.Appending.{receiving_capacity, moving_capacity};
 ghost use Rattle.dary_heap.specs.Bag.{IsSameBag};
 ghost use Rattle.dary_heap.specs.Bounds.{RisesWithin, mend_bound};
 ghost use Rattle.dary_heap.specs.Contents.{Contents};
-ghost use Rattle.dary_heap.specs.Extending.{IsExtended, IsPoured, IsRefusedAfter};
+ghost use Rattle.dary_heap.specs.Extending.{IsExtended, IsExtendedUntilRefused, IsPoured, IsRefusedAfter};
 ghost use Rattle.dary_heap.specs.HeapOrder.{IsHeapOrdered};
 
 use super::DaryHeap;
@@ -47,18 +46,24 @@ impl<T: Ord, const D: usize> DaryHeap<T, D> {
     pub fn append(&mut self, other: &mut Self) -> Result<(), AllocError>
         ensures bag { OnOk result (IsSameBag (self.old.items ++ other.old.items) self.new.items) }
         ensures emptied { OnOk result (other.new.items ≡ []) }
-        ensures len { OnOk result (length self.new.items ≡ length self.old.items + length other.old.items) }
+        ensures len { OnOk result
+            (length self.new.items ≡ length self.old.items + length other.old.items) }
         ensures ordered { IsHeapOrdered T.cmp D self.new.items }
         ensures other_ordered { IsHeapOrdered T.cmp D other.new.items }
-        ensures counted { OnOk result (RisesWithin self.old.comparisons self.new.comparisons (mend_bound D (length self.new.items) (min (length self.old.items) (length other.old.items)))) }
+        ensures counted { OnOk result (RisesWithin self.old.comparisons self.new.comparisons
+            (mend_bound D (length self.new.items)
+            (min (length self.old.items) (length other.old.items)))) }
         ensures uncounted { other.new.comparisons ≡ other.old.comparisons }
         ensures capacity { OnOk result (receiving_capacity self.old other.old ≤ self.new.capacity) }
         ensures same_items { OnOk result (other.old.items ≡ [] → self.new.items ≡ self.old.items) }
-        ensures other_capacity { OnOk result (other.new.capacity ≡ moving_capacity self.old other.old) }
+        ensures other_capacity { OnOk result
+            (other.new.capacity ≡ moving_capacity self.old other.old) }
 
         // It fails only if the longer heap lacks room, and then nothing has changed.
-        ensures succeeds { length self.old.items + length other.old.items ≤ receiving_capacity self.old other.old → IsOk result }
-        ensures full { OnErr result (receiving_capacity self.old other.old < length self.old.items + length other.old.items) }
+        ensures succeeds { length self.old.items + length other.old.items
+            ≤ receiving_capacity self.old other.old → IsOk result }
+        ensures full { OnErr result (receiving_capacity self.old other.old < length self.old.items
+            + length other.old.items) }
         ensures unchanged { OnErr result (self.new ≡ self.old) }
         ensures other_unchanged { OnErr result (other.new ≡ other.old) }
     {
@@ -79,8 +84,10 @@ fn take_in<T: Ord, const D: usize>(items: &mut Vec<T>, others: &mut Vec<T>, judg
     ensures bag { IsSameBag (items.old.items ++ others.old.items) items.new.items }
     ensures emptied { others.new.items ≡ [] }
     ensures same_items { others.old.items ≡ [] → items.new.items ≡ items.old.items }
-    ensures ordered { IsHeapOrdered T.cmp D items.old.items → IsHeapOrdered T.cmp D items.new.items }
-    ensures counted { RisesWithin judge.old judge.new (mend_bound D (vec_len items.new) (vec_len others.old)) }
+    ensures ordered { IsHeapOrdered T.cmp D items.old.items
+        → IsHeapOrdered T.cmp D items.new.items }
+    ensures counted { RisesWithin judge.old judge.new
+        (mend_bound D (vec_len items.new) (vec_len others.old)) }
     ensures capacity { vec_capacity items.old ≤ vec_capacity items.new }
     ensures other_capacity { vec_capacity others.new ≡ vec_capacity others.old }
 {
@@ -123,7 +130,9 @@ fn pour<T, X: Element<T>, I: Iterator<Item = X>>(
     mut rest: I,
 ) -> (Vec<T>, (I, bool))
     requires { I.can_next rest × IsFinite (I.remaining rest) }
-    ensures came { (xs : List X) × (result.0.items ≡ items.items ++ map X.value xs) × (vec_len result.0 ≡ vec_len items + length xs) × IsPoured I.can_next I.remaining I.next_gives rest xs result.1.1 result.1.0 }
+    ensures came { (xs : List X) × (result.0.items ≡ items.items ++ map X.value xs)
+        × (vec_len result.0 ≡ vec_len items + length xs)
+        × IsPoured I.can_next I.remaining I.next_gives rest xs result.1.1 result.1.0 }
     ensures full { OnFalse result.1.1 (vec_len result.0 ≡ vec_capacity result.0) }
     ensures capacity { vec_capacity result.0 ≡ vec_capacity items }
 {
@@ -159,7 +168,9 @@ fn push_all<T: Drop, X: Element<T>, I: Iterator<Item = X>>(
     iter: I,
 ) -> Result<(), AllocError>
     requires { I.can_next iter × IsFinite (I.remaining iter) }
-    ensures came { (xs : List X) × (items.new.items ≡ items.old.items ++ map X.value xs) × MatchResult result (λ _. Drains I.next_gives iter xs) (λ _. IsRefusedAfter I.next_gives iter xs (vec_len items.old) (vec_capacity items.old)) }
+    ensures came { (xs : List X) × (items.new.items ≡ items.old.items ++ map X.value xs)
+        × MatchResult result (λ _. Drains I.next_gives iter xs)
+        (λ _. IsRefusedAfter I.next_gives iter xs (vec_len items.old) (vec_capacity items.old)) }
     ensures capacity { vec_capacity items.old ≤ vec_capacity items.new }
 {
     let mut rest = iter;
@@ -182,9 +193,12 @@ fn extend_heap<T: Ord + Drop, X: Element<T>, U: IntoIterator<Item = X>, const D:
     heap: &mut DaryHeap<T, D>,
     iter: U,
 ) -> Result<(), AllocError>
-    requires { (it : U.IntoIter) → U.into_iter_gives iter it → U.IntoIter.can_next it × IsFinite (U.IntoIter.remaining it) }
-    ensures ran { ExtendsWithItems U.into_iter_gives U.IntoIter.next_gives (λ old xs new. IsExtended T.cmp D old (map X.value xs) new) iter heap.old heap.new result }
-    ensures refused { OnErr result ((it : U.IntoIter) × (xs : List X) × U.into_iter_gives iter it × IsRefusedAfter U.IntoIter.next_gives it xs (length heap.old.items) heap.old.capacity × IsExtended T.cmp D heap.old (map X.value xs) heap.new) }
+    requires { (it : U.IntoIter) → U.into_iter_gives iter it → U.IntoIter.can_next it
+        × IsFinite (U.IntoIter.remaining it) }
+    ensures ran { ExtendsWithItems U.into_iter_gives U.IntoIter.next_gives
+        (λ old xs new. IsExtended T.cmp D old (map X.value xs) new) iter heap.old heap.new result }
+    ensures refused { OnErr result (IsExtendedUntilRefused U.into_iter_gives U.IntoIter.next_gives
+        X.value T.cmp D iter heap.old heap.new) }
 {
     let start = heap.items.len();
     let iter = iter.into_iter();
@@ -223,9 +237,12 @@ impl<T: Ord + Drop, const D: usize> Extend<T> for DaryHeap<T, D> {
     ghost extend_gives = { λ old xs new. IsExtended T.cmp D old xs new };
 
     fn extend<U: IntoIterator<Item = T>>(&mut self, iter: U) -> Result<(), AllocError>
-        requires { (it : U.IntoIter) → U.into_iter_gives iter it → U.IntoIter.can_next it × IsFinite (U.IntoIter.remaining it) × HoldsAlong U.IntoIter.next_gives it (λ xs. ⊤) }
-        ensures ran { ExtendsWithItems U.into_iter_gives U.IntoIter.next_gives (λ old xs new. IsExtended T.cmp D old xs new) iter self.old self.new result }
-        ensures refused { OnErr result ((it : U.IntoIter) × (xs : List T) × U.into_iter_gives iter it × IsRefusedAfter U.IntoIter.next_gives it xs (length self.old.items) self.old.capacity × IsExtended T.cmp D self.old xs self.new) }
+        requires { (it : U.IntoIter) → U.into_iter_gives iter it → U.IntoIter.can_next it
+            × IsFinite (U.IntoIter.remaining it) × HoldsAlong U.IntoIter.next_gives it (λ xs. ⊤) }
+        ensures ran { ExtendsWithItems U.into_iter_gives U.IntoIter.next_gives
+            (λ old xs new. IsExtended T.cmp D old xs new) iter self.old self.new result }
+        ensures refused { OnErr result (IsExtendedUntilRefused U.into_iter_gives
+            U.IntoIter.next_gives (λ item. item) T.cmp D iter self.old self.new) }
     {
         extend_heap(self, iter)
     }
@@ -245,12 +262,16 @@ impl<T: Ord + Drop, const D: usize> Extend<T> for DaryHeap<T, D> {
 /// assert_eq!(rt; heap.pop(), Some(9));
 /// ```
 impl<'a, T: Ord + Copy + 'a, const D: usize> Extend<&'a T> for DaryHeap<T, D> {
-    ghost extend_gives = { λ old xs new. IsExtended T.cmp D old (map (λ x. x.now) xs) new };
+    ghost extend_gives = { λ old xs new. IsExtended T.cmp D old (map (λ item. item.now) xs) new };
 
     fn extend<U: IntoIterator<Item = &'a T>>(&mut self, iter: U) -> Result<(), AllocError>
-        requires { (it : U.IntoIter) → U.into_iter_gives iter it → U.IntoIter.can_next it × IsFinite (U.IntoIter.remaining it) × HoldsAlong U.IntoIter.next_gives it (λ xs. ⊤) }
-        ensures ran { ExtendsWithItems U.into_iter_gives U.IntoIter.next_gives (λ old xs new. IsExtended T.cmp D old (map (λ x. x.now) xs) new) iter self.old self.new result }
-        ensures refused { OnErr result ((it : U.IntoIter) × (xs : List (Bor T)) × U.into_iter_gives iter it × IsRefusedAfter U.IntoIter.next_gives it xs (length self.old.items) self.old.capacity × IsExtended T.cmp D self.old (map (λ x. x.now) xs) self.new) }
+        requires { (it : U.IntoIter) → U.into_iter_gives iter it → U.IntoIter.can_next it
+            × IsFinite (U.IntoIter.remaining it) × HoldsAlong U.IntoIter.next_gives it (λ xs. ⊤) }
+        ensures ran { ExtendsWithItems U.into_iter_gives U.IntoIter.next_gives
+            (λ old xs new. IsExtended T.cmp D old (map (λ item. item.now) xs) new)
+            iter self.old self.new result }
+        ensures refused { OnErr result (IsExtendedUntilRefused U.into_iter_gives
+            U.IntoIter.next_gives (λ item. item.now) T.cmp D iter self.old self.new) }
     {
         extend_heap(self, iter)
     }

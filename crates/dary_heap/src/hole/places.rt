@@ -71,7 +71,8 @@ impl<T> Hole<T> {
         requires here { at ≡ self.old.at }
         requires other { (place < length self.old.items) × (place ≢ at) }
         ensures slice { self.new.ptr ≡ self.old.ptr }
-        ensures items { (x : T) → self.new.items ≡ slice_set self.old.items at (slice_index_or self.old.items place x) }
+        ensures items { (x : T)
+            → self.new.items ≡ slice_set self.old.items at (slice_index_or self.old.items place x) }
         ensures at { self.new.at ≡ place }
     {
         unsafe { self.ptr.add(at).write(self.ptr.add(place).read()) }

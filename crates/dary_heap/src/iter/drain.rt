@@ -59,7 +59,8 @@ impl<T: Ord, const D: usize> DaryHeap<T, D> {
     /// No comparison.
     pub fn drain(&mut self) -> Drain<'_, T>
         // Once the iterator is gone the heap has no items, no room and the same count.
-        ensures* emptied { sem 𝓛 (leaves_emptied T.row D.row T.Ord.own T.PartialEq T.PartialOrd.own self.entry (drain_lender result)) }
+        ensures* emptied { sem 𝓛 (leaves_emptied T.row D.row T.Ord.own T.PartialEq T.PartialOrd.own
+            self.entry (drain_lender result)) }
         ensures items { drain_rest result ≡ self.old.items }
         ensures fits { length (drain_rest result) < 2 ^ 64 }
         ensures runs { YieldsInOrder (YieldsFirst {A = T} drain_rest) drain_rest }

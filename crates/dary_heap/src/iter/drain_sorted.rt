@@ -43,7 +43,8 @@ impl<'a, T: Ord + Drop, const D: usize> Drop for DrainSorted<'a, T, D> {
     fn drop(self)
         ensures items { self.exit.0.now.items ≡ [] }
         ensures capacity { self.exit.0.now.capacity ≡ (drained_heap self.entry).capacity }
-        ensures counted { RisesWithin (drained_heap self.entry).comparisons self.exit.0.now.comparisons (pops_bound D (length (drained_heap self.entry).items)) }
+        ensures counted { RisesWithin (drained_heap self.entry).comparisons
+            self.exit.0.now.comparisons (pops_bound D (length (drained_heap self.entry).items)) }
     {
         let DrainSorted { heap } = self;
         pop_all(heap);
@@ -55,7 +56,8 @@ impl<'a, T: Ord + Drop, const D: usize> Drop for DrainSorted<'a, T, D> {
 fn pop_all<T: Ord + Drop, const D: usize>(heap: &mut DaryHeap<T, D>)
     ensures items { heap.new.items ≡ [] }
     ensures capacity { heap.new.capacity ≡ heap.old.capacity }
-    ensures counted { RisesWithin heap.old.comparisons heap.new.comparisons (pops_bound D (length heap.old.items)) }
+    ensures counted { RisesWithin heap.old.comparisons heap.new.comparisons
+        (pops_bound D (length heap.old.items)) }
 {
     while let Some(_) = heap.pop() {}
 }
@@ -93,7 +95,8 @@ impl<T: Ord, const D: usize> DaryHeap<T, D> {
 
         // Calls of `next` give a greatest part of the items in descending order, each once, and up to
         // `None` all of them.
-        ensures descending { GivesDescending T.cmp (DrainsSorted T.cmp) (λ it. (drained_heap it).items) result }
+        ensures descending { GivesDescending T.cmp (DrainsSorted T.cmp)
+            (λ it. (drained_heap it).items) result }
     {
         // It ensures that the heap is ordered.
         let _ = self.as_slice();

@@ -62,7 +62,8 @@ impl<T: Ord, const D: usize> DaryHeap<T, D> {
         ensures items { result ≡ self.now.items }
         ensures fits { length result < 2 ^ 64 }
         ensures runs { YieldsRefsInOrder (YieldsFirstRef {A = T} (λ rest. rest)) (λ rest. rest) }
-        ensures runs_back { YieldsRefsInReverse (YieldsLastRef {A = T} (λ rest. rest)) (λ rest. rest) }
+        ensures runs_back { YieldsRefsInReverse (YieldsLastRef {A = T} (λ rest. rest))
+            (λ rest. rest) }
     {
         Iter {
             rest: self.items.as_slice().iter(),

@@ -107,7 +107,8 @@ impl<T: Ord, const D: usize> IntoIterSorted<T, D> {
         T: Clone + Drop,
         requires { (x y : T) → Contains self.now.items x → T.is_clone x y → y ≡ x }
         ensures items { IfOk result (λ copy. copy.items ≡ self.now.items) }
-        ensures counted { IfOk result (λ copy. RisesWithin 0 copy.comparisons (build_bound D (length self.now.items))) }
+        ensures counted { IfOk result
+            (λ copy. RisesWithin 0 copy.comparisons (build_bound D (length self.now.items))) }
     {
         Ok(IntoIterSorted {
             heap: self.heap.clone()?,

@@ -45,7 +45,9 @@ impl<T: Ord, const D: usize> DaryHeap<T, D> {
     /// No comparison. [`PeekMut`] says what its end takes.
     pub fn peek_mut(&mut self) -> Option<PeekMut<'_, T, D>>
         // If it returns `None` the heap stays as it is.
-        ensures* unchanged { sem 𝓛 (RestsIfNone (heap_row T.row D.row T.Ord.own T.PartialEq T.PartialOrd.own) self.entry lender result (λ heap. heap ≡ self.old)) }
+        ensures* unchanged { sem 𝓛 (RestsIfNone
+            (heap_row T.row D.row T.Ord.own T.PartialEq T.PartialOrd.own)
+            self.entry lender result (λ heap. heap ≡ self.old)) }
         ensures variant { IsSome result ↔ (0 < length self.old.items) }
         ensures loaned { IfSome result (λ loan. loaned loan ≡ self.old) }
         ensures unwritten { IfSome result (λ loan. is_written loan ≡ false) }
@@ -97,7 +99,8 @@ impl<'a, T: Ord + Drop, const D: usize> PeekMut<'a, T, D> {
         ensures bag { IsSameBag (loaned this.entry).items (result ∷ this.exit.0.now.items) }
         ensures len { length this.exit.0.now.items ≡ length (loaned this.entry).items - 1 }
         ensures ordered { IsHeapOrdered T.cmp D this.exit.0.now.items }
-        ensures counted { RisesWithin (loaned this.entry).comparisons this.exit.0.now.comparisons (pop_bound D (length (loaned this.entry).items)) }
+        ensures counted { RisesWithin (loaned this.entry).comparisons this.exit.0.now.comparisons
+            (pop_bound D (length (loaned this.entry).items)) }
         ensures capacity { this.exit.0.now.capacity ≡ (loaned this.entry).capacity }
 
         // `first` again, in the words of an index: with these a caller's proof also gets at a signed number.
@@ -145,12 +148,14 @@ impl<'a, T: Ord + Drop, const D: usize> PeekMut<'a, T, D> {
         ensures greatest { IsState T.cmp (loaned self.new).items }
         ensures ordered { IsHeapOrdered T.cmp D (loaned self.new).items }
         ensures settled { is_written self.new ≡ false }
-        ensures counted { RisesWithin (loaned self.old).comparisons (loaned self.new).comparisons (sink_bound D (length (loaned self.old).items)) }
+        ensures counted { RisesWithin (loaned self.old).comparisons (loaned self.new).comparisons
+            (sink_bound D (length (loaned self.old).items)) }
         ensures capacity { (loaned self.new).capacity ≡ (loaned self.old).capacity }
         ensures same_reference { lender self.new ≡ lender self.old }
 
         // From arity 2 on this says more if the last place is the first of its depth.
-        ensures tight { RisesWithin (loaned self.old).comparisons (loaned self.new).comparisons (pop_bound D (length (loaned self.old).items) + 1) }
+        ensures tight { RisesWithin (loaned self.old).comparisons (loaned self.new).comparisons
+            (pop_bound D (length (loaned self.old).items) + 1) }
 
         // If it returns false no item moves. If nothing was written, or one item is alone, nothing is
         // compared either.
@@ -219,7 +224,8 @@ impl<T: Ord, const D: usize> DerefMut for PeekMut<'_, T, D> {
     ghost deref_mut_gives = { λ loan item. front (loaned loan).items ≡ Some item };
 
     fn deref_mut(&mut self) -> &mut T
-        ensures* writes_back { sem 𝓛 (lends_first T.row D.row T.Ord.own T.PartialEq T.PartialOrd.own self.entry result) }
+        ensures* writes_back { sem 𝓛
+            (lends_first T.row D.row T.Ord.own T.PartialEq T.PartialOrd.own self.entry result) }
         ensures first { front (loaned self.old).items ≡ Some result.now }
     {
         self.written = true;

@@ -16,7 +16,8 @@ use crate::hole::Hole;
 #[inline(always)]
 fn item_at<T>(hole: &Hole<T>, place: usize) -> (usize, &T)
     requires { IsBelow hole.now place (place + 1) }
-    ensures { (order : T → T → Ordering) → IsGreatestAt order place (place + 1) result.0 result.1.now hole.now.items }
+    ensures { (order : T → T → Ordering)
+        → IsGreatestAt order place (place + 1) result.0 result.1.now hole.now.items }
 {
     (place, hole.get(place))
 }
@@ -28,7 +29,10 @@ fn greater_of<'a, T, J: Judge<T>>(
     b: (usize, &'a T),
     judge: &mut J,
 ) -> (usize, &'a T)
-    ensures chosen { (items : List T) (first mid end : ℕ) → IsGreatestAt J.order first mid a.entry.0 a.entry.1.now items → IsGreatestAt J.order mid end b.entry.0 b.entry.1.now items → IsGreatestAt J.order first end result.0 result.1.now items }
+    ensures chosen { (items : List T) (first mid end : ℕ)
+        → IsGreatestAt J.order first mid a.entry.0 a.entry.1.now items
+        → IsGreatestAt J.order mid end b.entry.0 b.entry.1.now items
+        → IsGreatestAt J.order first end result.0 result.1.now items }
     ensures counted { J.count judge.new ≡ J.count judge.old + 1 }
 {
     if judge.at_most(a.1, b.1) { b } else { a }
@@ -39,7 +43,8 @@ fn greater_of<'a, T, J: Judge<T>>(
 #[inline(always)]
 fn place_of_two<T, J: Judge<T>>(hole: &Hole<T>, first: usize, judge: &mut J) -> usize
     requires { IsBelow hole.now first (first + 2) }
-    ensures { Chooses J.order first (first + 2) result hole.now.items (J.count judge.old) (J.count judge.new) }
+    ensures { Chooses J.order first (first + 2) result hole.now.items (J.count judge.old)
+        (J.count judge.new) }
 {
     first + judge.at_most(hole.get(first), hole.get(first + 1)) as usize
 }
@@ -133,7 +138,8 @@ pub(super) fn guessed<T, J: Judge<T>>(
     judge: &mut J,
 ) -> usize
     requires { IsBelow hole.now first end }
-    ensures { Chooses J.order first end result hole.now.items (J.count judge.old) (J.count judge.new) }
+    ensures { Chooses J.order first end result hole.now.items (J.count judge.old)
+        (J.count judge.new) }
 {
     let mut best = first;
     for place in first + 1..end {

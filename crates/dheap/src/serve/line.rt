@@ -30,7 +30,8 @@ pub enum Line {
 impl Line {
     /// Reads a line, unless it is bad.
     pub fn parse(line: &[u8]) -> Option<Line>
-        ensures { MatchOption result ((l : Line) → ¬ (Says (words_of line.now) l)) (Says (words_of line.now)) }
+        ensures { MatchOption result ((l : Line) → ¬ (Says (words_of line.now) l))
+            (Says (words_of line.now)) }
     {
         let Some((name, after)) = first_word(line) else {
             return Some(Line::Blank);
@@ -68,7 +69,8 @@ pub fn plain(script: &[u8]) -> Option<(Line, &[u8])>
 /// The number that stands between a space and the first line feed, and what comes after that, if nothing
 /// else stands there and the number has no plus.
 fn plain_number(script: &[u8]) -> Option<(i64, &[u8])>
-    ensures { IfSome result (λ read. (word : List ℕ) × (script.now ≡ 32 ∷ word ++ 10 ∷ read.1.now) × IsNumber word × (read.0 ≡ signed_digits_value 10 word)) }
+    ensures { IfSome result (λ read. (word : List ℕ) × (script.now ≡ 32 ∷ word ++ 10 ∷ read.1.now)
+        × IsNumber word × (read.0 ≡ signed_digits_value 10 word)) }
 {
     let word = script.strip_prefix(b" ")?;
     if let Some(digits) = word.strip_prefix(b"-") {
@@ -82,7 +84,8 @@ fn plain_number(script: &[u8]) -> Option<(i64, &[u8])>
 /// The number whose decimal digits, at least one and at most 19, are all that stands before the first line
 /// feed, and what comes after that.
 fn plain_natural(script: &[u8]) -> Option<(u64, &[u8])>
-    ensures { IfSome result (λ read. (word : List ℕ) × (script.now ≡ word ++ 10 ∷ read.1.now) × IsNumeral 10 word × (read.0 ≡ digits_value 10 word)) }
+    ensures { IfSome result (λ read. (word : List ℕ) × (script.now ≡ word ++ 10 ∷ read.1.now)
+        × IsNumeral 10 word × (read.0 ≡ digits_value 10 word)) }
 {
     let (number, count) = leading_digits(script);
     match &script[count..] {
@@ -94,7 +97,8 @@ fn plain_natural(script: &[u8]) -> Option<(u64, &[u8])>
 /// The number that the digits write that stand first, at most 19 of them, and how many they are. A number
 /// of so many digits is in range.
 fn leading_digits(script: &[u8]) -> (u64, usize)
-    ensures { (result.1 ≤ length script.now) × AllDigits 10 (take result.1 script.now) × (result.0 ≡ digits_value 10 (take result.1 script.now)) }
+    ensures { (result.1 ≤ length script.now) × AllDigits 10 (take result.1 script.now)
+        × (result.0 ≡ digits_value 10 (take result.1 script.now)) }
 {
     let most = script.len().min(19);
     let mut number = 0;
@@ -110,7 +114,8 @@ fn leading_digits(script: &[u8]) -> (u64, usize)
 
 /// The first word, and what comes after it, if there is a word.
 fn first_word(line: &[u8]) -> Option<(&[u8], &[u8])>
-    ensures { MatchOption result (words_of line.now ≡ []) (λ found. words_of line.now ≡ found.0.now ∷ words_of found.1.now) }
+    ensures { MatchOption result (words_of line.now ≡ [])
+        (λ found. words_of line.now ≡ found.0.now ∷ words_of found.1.now) }
 {
     let Some(start) = line.iter().position(|byte| !is_blank(*byte)) else {
         return None;
@@ -142,7 +147,8 @@ fn alone(name: &[u8]) -> Option<Line>
 
 /// Reads a line of two words.
 fn with_argument(name: &[u8], argument: &[u8]) -> Option<Line>
-    ensures { MatchOption result ((l : Line) → ¬ (Says (name.now ∷ argument.now ∷ []) l)) (Says (name.now ∷ argument.now ∷ [])) }
+    ensures { MatchOption result ((l : Line) → ¬ (Says (name.now ∷ argument.now ∷ []) l))
+        (Says (name.now ∷ argument.now ∷ [])) }
 {
     match name {
         b"push" => number(argument).map(Line::Push),
@@ -183,7 +189,8 @@ fn without_plus(word: &[u8]) -> &[u8]
 
 /// The number that decimal digits write, if there are only such, at least one, and it is in range.
 fn natural(digits: &[u8]) -> Option<u64>
-    ensures { SomeIff result (IsNumeral 10 digits.now × (digits_value 10 digits.now < 2 ^ 64)) (digits_value 10 digits.now) }
+    ensures { SomeIff result (IsNumeral 10 digits.now × (digits_value 10 digits.now < 2 ^ 64))
+        (digits_value 10 digits.now) }
 {
     if digits.is_empty() {
         return None;
@@ -200,7 +207,8 @@ fn natural(digits: &[u8]) -> Option<u64>
 
 /// The number that one more digit makes of a number, if it is a digit and the number is in range.
 fn with_digit(number: u64, digit: u8) -> Option<u64>
-    ensures { SomeIff result (IsInRange 48 57 digit × (number * 10 + (digit - 48) < 2 ^ 64)) (number * 10 + (digit - 48)) }
+    ensures { SomeIff result (IsInRange 48 57 digit × (number * 10 + (digit - 48) < 2 ^ 64))
+        (number * 10 + (digit - 48)) }
 {
     if !digit.is_ascii_digit() {
         return None;

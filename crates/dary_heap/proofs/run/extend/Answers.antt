@@ -1,5 +1,6 @@
 use Rattle.std.proofs.Common.{◌∷◌, [], ◌++◌, sym, ◌∙◌, subst, append_assoc}
 use Rattle.std.proofs.IntoIterSteps.{All-taken}
+use Rattle.std.proofs.lemmas.List.{map-id}
 use Rattle.std.specs.Vec.Iter.{into_iter_items}
 use Rattle.dary_heap.specs.Extending.{IsExtended}
 use Rattle.dary_heap.proofs.run.ServingMany.{extended, extend_refused, taken_front}
@@ -13,7 +14,7 @@ returns-in-Ok g c =
 pub returns-in-Err : goal.returns-in-Err
 returns-in-Err g c =
     let k = c.in-Err.ensures.refused in
-    let refused = k.3 in
+    let refused = k.refused in
     let left = into_iter_items refused.left in
-    let split = sym k.2.0 ∙ taken_front k.0 (k.1 ++ refused.refused ∷ []) refused.left refused.gave ∙ append_assoc k.1 (refused.refused ∷ []) left in
-    extend_refused g.met.T.Ord.total c.args.heap.now c.extend.new.self c.args.items.items k.1 refused.refused left split k.4
+    let split = sym k.begins.0 ∙ taken_front k.from (k.came ++ refused.refused ∷ []) refused.left refused.gave ∙ append_assoc k.came (refused.refused ∷ []) left in
+    extend_refused g.met.T.Ord.total c.args.heap.now c.extend.new.self c.args.items.items k.came refused.refused left split (subst (λ xs. IsExtended g.T.Ord.cmp g.row.D c.args.heap.now xs c.extend.new.self) (map-id k.came) k.extended)

@@ -17,10 +17,10 @@ told (Err e) ok h = absurd (cc)
 
 pub returns-clause-succeeds : goal.returns-clause-succeeds
 returns-clause-succeeds c = never c.extend.result c.extend.ensures.refused (λ k.
-    let from = k.2 in
+    let from = k.begins in
     let more = c.args.more in
-    let few = at_most_from_yields_List (YieldsList-from_vec {s = k.0} more.items from.0 (from.1 ∙ more.ok.0)) (omega arith) in
-    extend_fits (length more.items) k.1 _ _ few (omega (arith, c.requires, more.ok.0)) k.3)
+    let few = at_most_from_yields_List (YieldsList-from_vec {s = k.from} more.items from.0 (from.1 ∙ more.ok.0)) (omega arith) in
+    extend_fits (length more.items) k.came _ _ few (omega (arith, c.requires, more.ok.0)) k.refused)
 
 pub returns-clause-bag : goal.returns-clause-bag
 returns-clause-bag c =

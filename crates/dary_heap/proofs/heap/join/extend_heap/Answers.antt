@@ -37,13 +37,13 @@ pub returns-clause-refused : goal.returns-clause-refused
 returns-clause-refused g c =
     let k = c.push_all-outcome.ensures.came in
     let here = (goal.at.returns-clause-refused g c).After-mend_with in
-    rw (← c.heap.view_is) (MatchResult-weaker c.push_all-outcome.result k.2 (λ u drains. tt) (λ e refusal. (
-      c.into_iter-iter.result,
-      k.0,
-      c.into_iter-iter.ensures.into_iter_gives,
-      record { refused = refusal.refused; left = refusal.left; gave = refusal.gave; full = omega (arith, refusal.full) },
-      rw (written_back _ _ _ (all g here)) (taken g here),
-    )))
+    rw (← c.heap.view_is) (MatchResult-weaker c.push_all-outcome.result k.2 (λ u drains. tt) (λ e refusal. record {
+      from = c.into_iter-iter.result;
+      came = k.0;
+      begins = c.into_iter-iter.ensures.into_iter_gives;
+      refused = record { refused = refusal.refused; left = refusal.left; gave = refusal.gave; full = omega (arith, refusal.full) };
+      extended = rw (written_back _ _ _ (all g here)) (taken g here);
+    }))
 
 -- what the heap holds at the end
 pub returns-clause-ran : goal.returns-clause-ran

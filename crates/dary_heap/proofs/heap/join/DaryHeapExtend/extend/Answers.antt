@@ -1,5 +1,4 @@
 use Rattle.std.proofs.Common.{subst}
-use Rattle.std.proofs.lemmas.Result.{IfErr-weaker}
 use Rattle.dary_heap.specs.Extending.{IsExtended}
 use Rattle.std.proofs.lemmas.List.{map-id}
 use Rattle.dary_heap.proofs.heap.join.DaryHeapExtend.extend.Goals as goal
@@ -8,6 +7,3 @@ pub returns-clause-ran : goal.returns-clause-ran
 returns-clause-ran g c =
     let k = c.extend_heap.ensures.ran in
     (k.0, k.1, k.2, subst (λ xs. IsExtended g.T.Ord.cmp g.row.D c.args.self.now xs c.extend_heap.new.heap) (map-id k.1) k.3, k.4)
-
-pub returns-clause-refused : goal.returns-clause-refused
-returns-clause-refused g c = IfErr-weaker c.extend_heap.result _ _ (λ e k. (k.0, k.1, k.2, k.3, subst (λ xs. IsExtended g.T.Ord.cmp g.row.D c.args.self.now xs c.extend_heap.new.heap) (map-id k.1) k.4)) c.extend_heap.ensures.refused
