@@ -77,11 +77,11 @@ module _ {T : Type 0} (cmp : T → T → Ordering) where
   Ends last left TakeOut (Some v) new = (v ≡ last) × IsSameBag left new × IsState cmp new
   Ends last left end popped new = ⊥
 
--- `answers p x a q`: the predicate p, called on x, may return a and be q from then on
-module _ {T P : Type 0} (cmp : T → T → Ordering) (answers : P → T → Bool → P → Type 0) where
+-- `calls p x a q`: the predicate p, called on x, may return a and be q from then on
+module _ {T P : Type 0} (cmp : T → T → Ordering) (calls : P → T → Bool → P → Type 0) where
   -- p, asked once about the front, may give this answer
   abbrev pub MayAnswer : List T → P → Bool → Type 0
-  MayAnswer state p answer = (f : T) × (front state ≡ Some f) × ((after : P) × answers p f answer after)
+  MayAnswer state p answer = (f : T) × (front state ≡ Some f) × ((after : P) × calls p f answer after)
 
   -- from the state old, the machine may give this reply to the command and leave the state new
   abbrev pub Step : List T → Command T P → Reply T → List T → Type 0
@@ -92,7 +92,7 @@ module _ {T P : Type 0} (cmp : T → T → Ordering) (answers : P → T → Bool
   Step old (Ask p) (Asked None) new = (old ≡ []) × (new ≡ [])
   Step old (Ask p) (Asked (Some answer)) new = MayAnswer old p answer × IsSameState old new
   Step old (PopIf p) (Popped None) new = ((old ≡ []) × (new ≡ [])) ⊎ (MayAnswer old p false × IsSameState old new)
-  Step old (PopIf p) (Popped (Some m)) new = Pops cmp old m new × ((after : P) × answers p m true after)
+  Step old (PopIf p) (Popped (Some m)) new = Pops cmp old m new × ((after : P) × calls p m true after)
   Step old Len (Size n) new = (n ≡ length old) × IsSameState old new
   Step old (Reserve n) Done new = IsSameState old new
   Step old (Reserve n) Refused new = IsSameState old new
@@ -105,7 +105,7 @@ module _ {T P : Type 0} (cmp : T → T → Ordering) (answers : P → T → Bool
   -- the predicate is asked about the items of some listing that begins with the front, in its order, once each and about nothing else. If it removes none, the front stays
   Step old (Retain p) Done new =
       (listing : List T) × (kept : List T)
-      × IsSameState old listing × IsFiltered answers p listing kept × IsSameBag kept new × IsState cmp new × (kept ≡ listing → front new ≡ front old)
+      × IsSameState old listing × IsFiltered calls p listing kept × IsSameBag kept new × IsState cmp new × (kept ≡ listing → front new ≡ front old)
   Step old Clear Done new = new ≡ []
   Step old (Drain k) (Taken taken) new = ((listing : List T) × IsSameState old listing × (taken ≡ take k listing)) × (new ≡ [])
   Step old (Drain k) Refused new = (old ≢ []) × (k ≢ 0) × IsSameState old new
@@ -120,10 +120,10 @@ module _ {T P : Type 0} (cmp : T → T → Ordering) (answers : P → T → Bool
   Step old command reply new = ⊥
 
   -- from the state old, the machine may give these replies to these commands, one step after another, and these are the states that they leave
-  abbrev pub Run : List T → List (Command T P) → List (Reply T) → List (List T) → Type 0
-  Run old [] [] [] = Unit {0}
-  Run old (command ∷ commands) (reply ∷ replies) (new ∷ later) = Step old command reply new × Run new commands replies later
-  Run old commands replies states = ⊥
+  abbrev pub Steps : List T → List (Command T P) → List (Reply T) → List (List T) → Type 0
+  Steps old [] [] [] = Unit {0}
+  Steps old (command ∷ commands) (reply ∷ replies) (new ∷ later) = Step old command reply new × Steps new commands replies later
+  Steps old commands replies states = ⊥
 
 -- the state at the end of a run: the last that was left, or the one at its start if there is none
 abbrev pub last_state : {T : Type 0} → List T → List (List T) → List T

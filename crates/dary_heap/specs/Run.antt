@@ -5,7 +5,7 @@ use Rattle.dary_heap.specs.Asking.{items_in}
 use Rattle.dary_heap.specs.Bounds.{RisesWithin, charge, charges}
 use Rattle.dary_heap.specs.Contents.{Contents}
 use Rattle.dary_heap.specs.HeapOrder.{IsHeapOrdered}
-use Rattle.dary_heap.specs.Machine.{Command, Reply, Push, Pop, PopIf, Ask, Len, Reserve, Pushed, Done, Step, Run, last_state}
+use Rattle.dary_heap.specs.Machine.{Command, Reply, Push, Pop, PopIf, Ask, Len, Reserve, Pushed, Done, Step, Steps, last_state}
 use Rattle.dary_heap.specs.State.{IsState}
 
 -- how many pushes there is room for
@@ -39,14 +39,14 @@ PushesServed sure [] replies = Unit {0}
 PushesServed sure (command ∷ commands) [] = Unit {0}
 PushesServed sure (command ∷ commands) (reply ∷ replies) = IsServed sure command reply × PushesServed (sure_after sure command reply) commands replies
 
-module _ {T P : Type 0} (cmp : T → T → Ordering) (answers : P → T → Bool → P → Type 0) (D : ℕ) where
+module _ {T P : Type 0} (cmp : T → T → Ordering) (calls : P → T → Bool → P → Type 0) (D : ℕ) where
   -- a heap gave these replies to these commands
   pub record Runs (old : Contents T) (commands : List (Command T P)) (replies : List (Reply T)) (new : Contents T) : Type 0 where
     -- the state after each step
     pub states : List (List T)
     -- the items at the start are a state, and from it the machine may give these replies and leave these states
     pub begins : IsState cmp old.items
-    pub run : Run cmp answers old.items commands replies states
+    pub run : Steps cmp calls old.items commands replies states
     pub ends : last_state old.items states ≡ new.items
     -- it made no more comparisons than the charges of the steps, taken over the same states
     pub charged : RisesWithin old.comparisons new.comparisons (charges D old.items commands replies states)
@@ -57,7 +57,7 @@ module _ {T P : Type 0} (cmp : T → T → Ordering) (answers : P → T → Bool
 
   -- a heap gave this reply to this command
   pub record Serves (old : Contents T) (command : Command T P) (reply : Reply T) (new : Contents T) : Type 0 where
-    pub step : Step cmp answers old.items command reply new.items
+    pub step : Step cmp calls old.items command reply new.items
     pub charged : RisesWithin old.comparisons new.comparisons (charge D (length old.items) command reply (length new.items))
     pub served : IsServed (room old) command reply
     pub sure : sure_after (room old) command reply ≤ room new

@@ -6,7 +6,7 @@ use Rattle.std.specs.declared.cmp.Ordering.{Ordering}
 use Rattle.std.specs.declared.cmp.Ordering.TheVariants.{Equal}
 use Rattle.dary_heap.specs.Asking.{items_in}
 use Rattle.dary_heap.specs.Bag.{IsSameBag}
-use Rattle.dary_heap.specs.Machine.{Command, Reply, PopIf, Ask, Retain, Append, Drain, PushRefused, ExtendRefused, Refused, Run, last_state}
+use Rattle.dary_heap.specs.Machine.{Command, Reply, PopIf, Ask, Retain, Append, Drain, PushRefused, ExtendRefused, Refused, Steps, last_state}
 use Rattle.dary_heap.specs.State.{IsState}
 
 -- the command holds no predicate and no heap, and no drain in slice order
@@ -30,20 +30,20 @@ pub record HasNoTies {T : Type 0} (cmp : T → T → Ordering) (values : List T)
   pub alike : (x y : T) → Contains values x → Contains values y → cmp x y ≡ Equal → x ≡ y
 
 -- the machine may give these replies to these commands on the way from one state to another, and none of them is a refusal
-pub record RunsUnrefused {T P : Type 0} (cmp : T → T → Ordering) (answers : P → T → Bool → P → Type 0) (start : List T) (commands : List (Command T P)) (replies : List (Reply T)) (end : List T) : Type 0 where
+pub record RunsUnrefused {T P : Type 0} (cmp : T → T → Ordering) (calls : P → T → Bool → P → Type 0) (start : List T) (commands : List (Command T P)) (replies : List (Reply T)) (end : List T) : Type 0 where
   pub states : List (List T)
   pub begins : IsState cmp start
-  pub run : Run cmp answers start commands replies states
+  pub run : Steps cmp calls start commands replies states
   pub ends : last_state start states ≡ end
   pub unrefused : AllByRecursion IsUnrefused replies
 
 -- two runs from the same bag by the same commands give the same replies and leave the same bag
 abbrev pub SameRepliesAtTwoArities : {T P : Type 0} → (T → T → Ordering) → (P → T → Bool → P → Type 0) → Type 0
-SameRepliesAtTwoArities {T} {P} cmp answers =
+SameRepliesAtTwoArities {T} {P} cmp calls =
     (commands : List (Command T P)) (start start' : List T) (replies replies' : List (Reply T)) (end end' : List T)
     → AllByRecursion IsSettled commands
     → IsSameBag start start'
     → HasNoTies cmp (start ++ items_in commands)
-    → RunsUnrefused cmp answers start commands replies end
-    → RunsUnrefused cmp answers start' commands replies' end'
+    → RunsUnrefused cmp calls start commands replies end
+    → RunsUnrefused cmp calls start' commands replies' end'
     → (replies ≡ replies') × IsSameBag end end'

@@ -2,7 +2,7 @@
 use Rattle.std.proofs.Common.{◌≡◌, ℕ, ℤ, Bool, true, false, List, [], ◌∷◌, ◌++◌, None, Some, refl, sym, ap, ◌∙◌, subst, inl, inr, int_le, All, is_some}
 use Rattle.std.specs.List.Retain.{ReturnsInTurn, IsFiltered}
 use Rattle.std.specs.Ordering.{int_cmp}
-use Rattle.dary_heap.specs.Machine.{Command, Reply, Step, Run, MayAnswer, Push, Pop, PopIf, Ask, Len, Retain, DrainSorted, Popped, Asked, Done}
+use Rattle.dary_heap.specs.Machine.{Command, Reply, Step, Steps, MayAnswer, Push, Pop, PopIf, Ask, Len, Retain, DrainSorted, Popped, Asked, Done}
 use Rattle.std.specs.Fn.{Mut, CalledAt}
 use denote.Ref.{Bor}
 use Rattle.dary_heap.specs.Contents.{Contents}
@@ -14,36 +14,36 @@ use Rattle.dheap.specs.Script.{CarryOut, CarryOutLine, Say, lines_of}
 use Rattle.dheap.specs.declared.serve.line.Line.{Line}
 use Rattle.dheap.specs.declared.serve.line.Line.TheVariants as line
 
-module _ {P : Type 0} (answers : P → ℤ → Bool → P → Type 0) (means : ℤ → P → Type 0)
-    (law : (n : ℤ) (p : P) (x : ℤ) (a : Bool) (q : P) → means n p → answers p x a q → (a ≡ int_le n x) × means n q) where
-  answer : (n : ℤ) (p : P) → means n p → (old : List ℤ) (a : Bool) → MayAnswer int_cmp answers old p a → MayAnswer int_cmp AsksAtLeast old n a
+module _ {P : Type 0} (calls : P → ℤ → Bool → P → Type 0) (means : ℤ → P → Type 0)
+    (law : (n : ℤ) (p : P) (x : ℤ) (a : Bool) (q : P) → means n p → calls p x a q → (a ≡ int_le n x) × means n q) where
+  answer : (n : ℤ) (p : P) → means n p → (old : List ℤ) (a : Bool) → MayAnswer int_cmp calls old p a → MayAnswer int_cmp AsksAtLeast old n a
   answer n p m old a h = (h.0, h.1, (n, ((law n p h.0 a h.2.0 m h.2.1).0, refl)))
 
-  in_turn : (n : ℤ) (p : P) → means n p → (bs : List Bool) (xs : List ℤ) (q : P) → ReturnsInTurn answers p bs xs q → ReturnsInTurn AsksAtLeast n bs xs n
+  in_turn : (n : ℤ) (p : P) → means n p → (bs : List Bool) (xs : List ℤ) (q : P) → ReturnsInTurn calls p bs xs q → ReturnsInTurn AsksAtLeast n bs xs n
   in_turn n p m [] xs q h = refl
   in_turn n p m (b ∷ bs) [] q h = absurd h
   in_turn n p m (b ∷ bs) (x ∷ xs) q h = let next = law n p x b h.0 m h.1 in (n, (next.0, refl), in_turn n h.0 next.1 bs xs q h.2)
 
-  filtered : (n : ℤ) (p : P) → means n p → (xs ys : List ℤ) → IsFiltered answers p xs ys → IsFiltered AsksAtLeast n xs ys
+  filtered : (n : ℤ) (p : P) → means n p → (xs ys : List ℤ) → IsFiltered calls p xs ys → IsFiltered AsksAtLeast n xs ys
   filtered n p m xs ys h = (h.0, n, h.2, in_turn n p m h.0 xs h.1 h.3, h.4)
 
-  ask : (n : ℤ) (p : P) → means n p → (old : List ℤ) (reply : Reply ℤ) (new : List ℤ) → Step int_cmp answers old (Ask p) reply new → Step int_cmp AsksAtLeast old (Ask n) reply new
+  ask : (n : ℤ) (p : P) → means n p → (old : List ℤ) (reply : Reply ℤ) (new : List ℤ) → Step int_cmp calls old (Ask p) reply new → Step int_cmp AsksAtLeast old (Ask n) reply new
   ask n p m old (Asked None) new h = h
   ask n p m old (Asked (Some a)) new h = (answer n p m old a h.0, h.1)
   ask n p m old reply new h = absurd h
 
-  pop_if : (n : ℤ) (p : P) → means n p → (old : List ℤ) (reply : Reply ℤ) (new : List ℤ) → Step int_cmp answers old (PopIf p) reply new → Step int_cmp AsksAtLeast old (PopIf n) reply new
+  pop_if : (n : ℤ) (p : P) → means n p → (old : List ℤ) (reply : Reply ℤ) (new : List ℤ) → Step int_cmp calls old (PopIf p) reply new → Step int_cmp AsksAtLeast old (PopIf n) reply new
   pop_if n p m old (Popped None) new (inl h) = inl h
   pop_if n p m old (Popped None) new (inr h) = inr (answer n p m old false h.0, h.1)
   pop_if n p m old (Popped (Some x)) new h = (h.0, (n, ((law n p x true h.1.0 m h.1.1).0, refl)))
   pop_if n p m old reply new h = absurd h
 
-  retain : (n : ℤ) (p : P) → means n p → (old : List ℤ) (reply : Reply ℤ) (new : List ℤ) → Step int_cmp answers old (Retain p) reply new → Step int_cmp AsksAtLeast old (Retain n) reply new
+  retain : (n : ℤ) (p : P) → means n p → (old : List ℤ) (reply : Reply ℤ) (new : List ℤ) → Step int_cmp calls old (Retain p) reply new → Step int_cmp AsksAtLeast old (Retain n) reply new
   retain n p m old Done new h = (h.0, h.1, h.2, filtered n p m h.0 h.1 h.3, h.4, h.5, h.6)
   retain n p m old reply new h = absurd h
 
   abbrev Converts : Command ℤ P → Command ℤ ℤ → Type 0
-  Converts c b = (old : List ℤ) (reply : Reply ℤ) (new : List ℤ) → Step int_cmp answers old c reply new → Step int_cmp AsksAtLeast old b reply new
+  Converts c b = (old : List ℤ) (reply : Reply ℤ) (new : List ℤ) → Step int_cmp calls old c reply new → Step int_cmp AsksAtLeast old b reply new
 
   abbrev Pairs : List (Command ℤ P) → List (Command ℤ ℤ) → Type 0
   Pairs [] [] = Unit {0}
@@ -70,7 +70,7 @@ module _ {P : Type 0} (answers : P → ℤ → Bool → P → Type 0) (means : �
   bounds_of (line.PopIf n ∷ lines) commands (first, later, e, is, rest) = more (line.PopIf n) (PopIf is.0) (PopIf n) (pop_if n is.0 is.1) (n, refl, refl) lines first later commands e is.2 (bounds_of lines later rest)
   bounds_of (line.Keep n ∷ lines) commands (first, later, e, is, rest) = more (line.Keep n) (Retain is.0) (Retain n) (retain n is.0 is.1) (n, refl, refl) lines first later commands e is.2 (bounds_of lines later rest)
 
-  run_on : (old : List ℤ) (cs : List (Command ℤ P)) (bs : List (Command ℤ ℤ)) (replies : List (Reply ℤ)) (states : List (List ℤ)) → Pairs cs bs → Run int_cmp answers old cs replies states → Run int_cmp AsksAtLeast old bs replies states
+  run_on : (old : List ℤ) (cs : List (Command ℤ P)) (bs : List (Command ℤ ℤ)) (replies : List (Reply ℤ)) (states : List (List ℤ)) → Pairs cs bs → Steps int_cmp calls old cs replies states → Steps int_cmp AsksAtLeast old bs replies states
   run_on old [] [] [] [] pairs h = tt
   run_on old [] [] [] (s ∷ ss) pairs h = absurd h
   run_on old [] [] (r ∷ rs) states pairs h = absurd h
@@ -81,7 +81,7 @@ module _ {P : Type 0} (answers : P → ℤ → Bool → P → Type 0) (means : �
   run_on old (c ∷ cs) (b ∷ bs) (r ∷ rs) (s ∷ ss) pairs h = (pairs.0 old r s h.0, run_on s cs bs rs ss pairs.1 h.1)
 
   pub may_print : (script : List ℕ) (lines : List Line) (commands : List (Command ℤ P)) (replies : List (Reply ℤ)) (states : List (List ℤ))
-      → Say (lines_of script) lines → CarryOut means commands lines → Run int_cmp answers [] commands replies states → All (λ reply. is_some (answers_of.answer reply) ≡ true) replies
+      → Say (lines_of script) lines → CarryOut means commands lines → Steps int_cmp calls [] commands replies states → All (λ reply. is_some (answers_of.answer reply) ≡ true) replies
       → MayPrint script (text replies)
   may_print script lines commands replies states say carry run whole =
       let (bounds, told, pairs) = bounds_of lines commands carry in
@@ -95,4 +95,4 @@ pub may_print_by : {P : Type 0} {calls : Mut P (Bor ℤ × Unit {0}) Bool} {mean
     → MayPrint script (text shown)
 may_print_by {P} {calls} {means} {D} {old} {new} {commands} {replies} {shown} script lines say carry runs none same whole law =
     may_print (CalledAt calls) means law script lines commands shown runs.states say carry
-    (subst (λ items. Run int_cmp (CalledAt calls) items commands shown runs.states) none (subst (λ rs. Run int_cmp (CalledAt calls) old.items commands rs runs.states) (sym same) runs.run)) whole
+    (subst (λ items. Steps int_cmp (CalledAt calls) items commands shown runs.states) none (subst (λ rs. Steps int_cmp (CalledAt calls) old.items commands rs runs.states) (sym same) runs.run)) whole

@@ -1,7 +1,7 @@
 -- What a run of the program prints.
 use Rattle.std.specs.Prelude.{◌≡◌, ℕ, ℤ, int_le, Bool, true, List, [], All, is_some}
 use Rattle.std.specs.Ordering.{int_cmp}
-use Rattle.dary_heap.specs.Machine.{Command, Reply, Run}
+use Rattle.dary_heap.specs.Machine.{Command, Reply, Steps}
 use Rattle.dheap.specs.Answers.{answer, text}
 use Rattle.dheap.specs.Script.{Say, CarryOut, lines_of}
 use Rattle.dheap.specs.declared.serve.line.Line.{Line}
@@ -13,5 +13,5 @@ AsksAtLeast n x answer after = (answer ≡ int_le n x) × (after ≡ n)
 -- this may be printed for a script: the answers to the replies that the bag machine, from the empty bag, may give to the commands of its lines, where each has one
 abbrev pub MayPrint : List ℕ → List ℕ → Type 0
 MayPrint script printed = (lines : List Line) × (commands : List (Command ℤ ℤ)) × (replies : List (Reply ℤ)) × (states : List (List ℤ))
-    × Say (lines_of script) lines × CarryOut (λ n bound. bound ≡ n) commands lines × Run int_cmp AsksAtLeast [] commands replies states
+    × Say (lines_of script) lines × CarryOut (λ n bound. bound ≡ n) commands lines × Steps int_cmp AsksAtLeast [] commands replies states
     × All (λ reply. is_some (answer reply) ≡ true) replies × (printed ≡ text replies)

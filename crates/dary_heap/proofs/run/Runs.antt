@@ -4,7 +4,7 @@ use Rattle.std.specs.declared.cmp.Ordering.{Ordering}
 use Rattle.dary_heap.specs.Bounds.{charge, charges}
 use Rattle.dary_heap.specs.Contents.{Contents}
 use Rattle.dary_heap.specs.Machine as machine
-use Rattle.dary_heap.specs.Machine.{Command, Reply, Step, Run, last_state}
+use Rattle.dary_heap.specs.Machine.{Command, Reply, Step, Steps, last_state}
 use Rattle.dary_heap.specs.State.{IsState}
 use Rattle.dary_heap.specs.Run.{IsServed, PushesServed, Runs, Serves, room, sure_after, sure_at_end}
 
@@ -12,8 +12,8 @@ last_state-more : {T : Type 0} (old new : List T) (states : List (List T)) → l
 last_state-more old new [] = refl
 last_state-more old new (state ∷ states) = last_state-more state new states
 
-module _ {T P : Type 0} (cmp : T → T → Ordering) (answers : P → T → Bool → P → Type 0) where
-  Run-more : (old new : List T) (commands : List (Command T P)) (replies : List (Reply T)) (states : List (List T)) (command : Command T P) (reply : Reply T) → Run cmp answers old commands replies states → Step cmp answers (last_state old states) command reply new → Run cmp answers old (commands ++ command ∷ []) (replies ++ reply ∷ []) (states ++ new ∷ [])
+module _ {T P : Type 0} (cmp : T → T → Ordering) (calls : P → T → Bool → P → Type 0) where
+  Run-more : (old new : List T) (commands : List (Command T P)) (replies : List (Reply T)) (states : List (List T)) (command : Command T P) (reply : Reply T) → Steps cmp calls old commands replies states → Step cmp calls (last_state old states) command reply new → Steps cmp calls old (commands ++ command ∷ []) (replies ++ reply ∷ []) (states ++ new ∷ [])
   Run-more old new [] [] [] command reply run step = (step, tt)
   Run-more old new [] [] (state ∷ states) command reply run step = absurd run
   Run-more old new [] (r ∷ replies) states command reply run step = absurd run
@@ -21,7 +21,7 @@ module _ {T P : Type 0} (cmp : T → T → Ordering) (answers : P → T → Bool
   Run-more old new (c ∷ commands) (r ∷ replies) [] command reply run step = absurd run
   Run-more old new (c ∷ commands) (r ∷ replies) (state ∷ states) command reply run step = (run.0, Run-more state new commands replies states command reply run.1 step)
 
-  charges-more : (D : ℕ) (old new : List T) (commands : List (Command T P)) (replies : List (Reply T)) (states : List (List T)) (command : Command T P) (reply : Reply T) → Run cmp answers old commands replies states → charges D old (commands ++ command ∷ []) (replies ++ reply ∷ []) (states ++ new ∷ []) ≡ charges D old commands replies states + charge D (length (last_state old states)) command reply (length new)
+  charges-more : (D : ℕ) (old new : List T) (commands : List (Command T P)) (replies : List (Reply T)) (states : List (List T)) (command : Command T P) (reply : Reply T) → Steps cmp calls old commands replies states → charges D old (commands ++ command ∷ []) (replies ++ reply ∷ []) (states ++ new ∷ []) ≡ charges D old commands replies states + charge D (length (last_state old states)) command reply (length new)
   charges-more D old new [] [] [] command reply run = omega arith
   charges-more D old new [] [] (state ∷ states) command reply run = absurd run
   charges-more D old new [] (r ∷ replies) states command reply run = absurd run
@@ -57,18 +57,18 @@ module _ {T P : Type 0} where
   sure_after-fewer few many command reply h = omega arith
 
 -- a run of a heap goes on by one command
-module _ {T P : Type 0} {cmp : T → T → Ordering} {answers : P → T → Bool → P → Type 0} {D : ℕ} where
-  pub Runs-begins : (heap : Contents T) → IsState cmp heap.items → Runs cmp answers D heap [] [] heap
+module _ {T P : Type 0} {cmp : T → T → Ordering} {calls : P → T → Bool → P → Type 0} {D : ℕ} where
+  pub Runs-begins : (heap : Contents T) → IsState cmp heap.items → Runs cmp calls D heap [] [] heap
   Runs-begins heap state = record { states = []; begins = state; run = tt; ends = refl; charged = record { rises = omega arith; within = omega arith }; served = tt; sure = omega arith }
 
-  pub Runs-more : (old mid new : Contents T) (commands : List (Command T P)) (replies : List (Reply T)) (command : Command T P) (reply : Reply T) → length commands ≡ length replies → Runs cmp answers D old commands replies mid → Serves cmp answers D mid command reply new → Runs cmp answers D old (commands ++ command ∷ []) (replies ++ reply ∷ []) new
+  pub Runs-more : (old mid new : Contents T) (commands : List (Command T P)) (replies : List (Reply T)) (command : Command T P) (reply : Reply T) → length commands ≡ length replies → Runs cmp calls D old commands replies mid → Serves cmp calls D mid command reply new → Runs cmp calls D old (commands ++ command ∷ []) (replies ++ reply ∷ []) new
   Runs-more old mid new commands replies command reply long runs serves =
-      let costs = charges-more cmp answers D old.items new.items commands replies runs.states command reply runs.run in
+      let costs = charges-more cmp calls D old.items new.items commands replies runs.states command reply runs.run in
       let last = ap (λ xs. charge D (length xs) command reply (length new.items)) runs.ends in
       record {
         states = runs.states ++ new.items ∷ [];
         begins = runs.begins;
-        run = Run-more cmp answers old.items new.items commands replies runs.states command reply runs.run (rw runs.ends serves.step);
+        run = Run-more cmp calls old.items new.items commands replies runs.states command reply runs.run (rw runs.ends serves.step);
         ends = last_state-more old.items new.items runs.states;
         charged = record { rises = omega arith; within = omega (arith, costs, last) };
         served = PushesServed-more (room old) commands replies command reply long runs.served (IsServed-fewer _ _ command reply runs.sure serves.served);

@@ -9,7 +9,7 @@ use Rattle.std.proofs.lemmas.List.Elements.{Contains-append_left, Contains-appen
 use Rattle.std.proofs.lemmas.List.Sorted.{IsPermutation-refl, IsPermutation-sym, IsPermutation-trans, IsPermutation-cons, IsPermutation-append_left, Contains-permutation, length_permutation}
 use Rattle.dary_heap.specs.Asking.{items_in, written}
 use Rattle.dary_heap.specs.Bag.{IsSameBag, IsGreatest, HasGreater}
-use Rattle.dary_heap.specs.Machine.{Act, Write, Refresh, End, PutBack, TakeOut, Seen, Old, Changed, Command, Reply, Push, Pop, PopIf, Ask, Len, Retain, Extend, Append, Reserve, Shrink, Clear, Drain, DrainSorted, Loan, Pushed, PushRefused, Popped, Size, Done, ExtendRefused, Refused, Taken, Loaned, Acts, Ends, Pops, PopsInTurn, Step, Run, last_state}
+use Rattle.dary_heap.specs.Machine.{Act, Write, Refresh, End, PutBack, TakeOut, Seen, Old, Changed, Command, Reply, Push, Pop, PopIf, Ask, Len, Retain, Extend, Append, Reserve, Shrink, Clear, Drain, DrainSorted, Loan, Pushed, PushRefused, Popped, Size, Done, ExtendRefused, Refused, Taken, Loaned, Acts, Ends, Pops, PopsInTurn, Step, Steps, last_state}
 use Rattle.dary_heap.specs.Contents.{Contents}
 use Rattle.dary_heap.specs.Run.{Runs}
 use Rattle.dary_heap.specs.State.{IsState, front}
@@ -41,7 +41,7 @@ record AreAlike {X : Type 0} (cmp : X → X → Ordering) (values one other : Li
   second : IsState cmp other
   among : IsAmong values one
 
-module _ {X P : Type 0} {cmp : X → X → Ordering} (answers : P → X → Bool → P → Type 0) (total : IsTotalOrder cmp) (values : List X) (untied : HasNoTies cmp values) where
+module _ {X P : Type 0} {cmp : X → X → Ordering} (calls : P → X → Bool → P → Type 0) (total : IsTotalOrder cmp) (values : List X) (untied : HasNoTies cmp values) where
   tied : (r : Ordering) (x y : X) → cmp x y ≡ r → r ≢ Greater → cmp y x ≢ Greater → r ≡ Equal
   tied Less x y e h k = absurd (k (total.antisymm y x ∙ ap ordering_reverse e))
   tied Equal x y e h k = refl
@@ -139,35 +139,35 @@ module _ {X P : Type 0} {cmp : X → X → Ordering} (answers : P → X → Bool
   acted held held' rest rest' (Refresh ∷ acts) seen seen' last last' left left' e same among wrote h k = absurd h
 
   -- what a reply that is no refusal says, command by command
-  push_says : (x : X) (old : List X) (reply : Reply X) (new : List X) → IsUnrefused reply → Step cmp answers old (Push x) reply new → (reply ≡ Pushed) × IsSameBag (x ∷ old) new
+  push_says : (x : X) (old : List X) (reply : Reply X) (new : List X) → IsUnrefused reply → Step cmp calls old (Push x) reply new → (reply ≡ Pushed) × IsSameBag (x ∷ old) new
   push_says x old Pushed new fine step = (refl, step.0)
   push_says x old (PushRefused y) new fine step = absurd fine
   push_says x old reply new fine step = absurd step
 
-  len_says : (old : List X) (reply : Reply X) (new : List X) → Step cmp answers old Len reply new → (reply ≡ Size (length old)) × IsSameBag old new
+  len_says : (old : List X) (reply : Reply X) (new : List X) → Step cmp calls old Len reply new → (reply ≡ Size (length old)) × IsSameBag old new
   len_says old (Size n) new step = (ap Size step.0, step.1.bag)
   len_says old reply new step = absurd step
 
-  reserve_says : (n : ℕ) (old : List X) (reply : Reply X) (new : List X) → IsUnrefused reply → Step cmp answers old (Reserve n) reply new → (reply ≡ Done) × IsSameBag old new
+  reserve_says : (n : ℕ) (old : List X) (reply : Reply X) (new : List X) → IsUnrefused reply → Step cmp calls old (Reserve n) reply new → (reply ≡ Done) × IsSameBag old new
   reserve_says n old Done new fine step = (refl, step.bag)
   reserve_says n old Refused new fine step = absurd fine
   reserve_says n old reply new fine step = absurd step
 
-  shrink_says : (n : ℕ) (old : List X) (reply : Reply X) (new : List X) → IsUnrefused reply → Step cmp answers old (Shrink n) reply new → (reply ≡ Done) × IsSameBag old new
+  shrink_says : (n : ℕ) (old : List X) (reply : Reply X) (new : List X) → IsUnrefused reply → Step cmp calls old (Shrink n) reply new → (reply ≡ Done) × IsSameBag old new
   shrink_says n old Done new fine step = (refl, step.bag)
   shrink_says n old Refused new fine step = absurd fine
   shrink_says n old reply new fine step = absurd step
 
-  extend_says : (xs old : List X) (reply : Reply X) (new : List X) → IsUnrefused reply → Step cmp answers old (Extend xs) reply new → (reply ≡ Done) × IsSameBag (old ++ xs) new
+  extend_says : (xs old : List X) (reply : Reply X) (new : List X) → IsUnrefused reply → Step cmp calls old (Extend xs) reply new → (reply ≡ Done) × IsSameBag (old ++ xs) new
   extend_says xs old Done new fine step = (refl, step.bag)
   extend_says xs old ExtendRefused new fine step = absurd fine
   extend_says xs old reply new fine step = absurd step
 
-  clear_says : (old : List X) (reply : Reply X) (new : List X) → Step cmp answers old Clear reply new → (reply ≡ Done) × (new ≡ [])
+  clear_says : (old : List X) (reply : Reply X) (new : List X) → Step cmp calls old Clear reply new → (reply ≡ Done) × (new ≡ [])
   clear_says old Done new step = (refl, step)
   clear_says old reply new step = absurd step
 
-  drain_says : (k : ℕ) (old : List X) (reply : Reply X) (new : List X) → IsUnrefused reply → Step cmp answers old (DrainSorted k) reply new → (taken : List X) × (reply ≡ Taken taken) × PopsInTurn cmp old k taken × (new ≡ [])
+  drain_says : (k : ℕ) (old : List X) (reply : Reply X) (new : List X) → IsUnrefused reply → Step cmp calls old (DrainSorted k) reply new → (taken : List X) × (reply ≡ Taken taken) × PopsInTurn cmp old k taken × (new ≡ [])
   drain_says k old (Taken taken) new fine step = (taken, refl, step.0, step.1)
   drain_says k old Refused new fine step = absurd fine
   drain_says k old reply new fine step = absurd step
@@ -184,7 +184,7 @@ module _ {X P : Type 0} {cmp : X → X → Ordering} (answers : P → X → Bool
   emptied : (reply reply' : Reply X) (new new' : List X) → reply ≡ reply' → new ≡ [] → new' ≡ [] → StepsAlike reply reply' new new'
   emptied reply reply' new new' same h k = record { replies = same; bag = both_empty new new' h k; among = subst (IsAmong values) (sym h) (λ y in'. absurd (omega (arith, in'.1))) }
 
-  pop_alike : (old old' : List X) (reply reply' : Reply X) (new new' : List X) → AreAlike cmp values old old' → Step cmp answers old Pop reply new → Step cmp answers old' Pop reply' new' → StepsAlike reply reply' new new'
+  pop_alike : (old old' : List X) (reply reply' : Reply X) (new new' : List X) → AreAlike cmp values old old' → Step cmp calls old Pop reply new → Step cmp calls old' Pop reply' new' → StepsAlike reply reply' new new'
   pop_alike old old' (Popped None) (Popped None) new new' alike h k = emptied _ _ new new' refl h.1 k.1
   pop_alike old old' (Popped None) (Popped (Some y)) new new' alike h k = absurd (none_alike old old' y alike.bag h.0 k.0)
   pop_alike old old' (Popped (Some x)) (Popped None) new new' alike h k = absurd (none_alike_back old old' x alike.bag k.0 h.0)
@@ -204,7 +204,7 @@ module _ {X P : Type 0} {cmp : X → X → Ordering} (answers : P → X → Bool
   ended last last' left left' TakeOut (Some x) None new new' e same among h k = absurd k
   ended last last' left left' TakeOut None popped' new new' e same among h k = absurd h
 
-  loan_alike : (acts : List (Act X)) (end : End) (old old' : List X) (reply reply' : Reply X) (new new' : List X) → AreAlike cmp values old old' → IsAmong values (written acts) → IsUnrefused reply → IsUnrefused reply' → Step cmp answers old (Loan acts end) reply new → Step cmp answers old' (Loan acts end) reply' new' → StepsAlike reply reply' new new'
+  loan_alike : (acts : List (Act X)) (end : End) (old old' : List X) (reply reply' : Reply X) (new new' : List X) → AreAlike cmp values old old' → IsAmong values (written acts) → IsUnrefused reply → IsUnrefused reply' → Step cmp calls old (Loan acts end) reply new → Step cmp calls old' (Loan acts end) reply' new' → StepsAlike reply reply' new new'
   loan_alike acts end old old' (Loaned None) (Loaned None) new new' alike wrote fine fine' h k = emptied _ _ new new' refl h.1 k.1
   loan_alike acts end old old' (Loaned None) (Loaned (Some told)) new new' alike wrote fine fine' h k = absurd (none_alike old old' k.0 alike.bag h.0 k.4)
   loan_alike acts end old old' (Loaned (Some told)) (Loaned None) new new' alike wrote fine fine' h k = absurd (none_alike_back old old' h.0 alike.bag k.0 h.4)
@@ -221,7 +221,7 @@ module _ {X P : Type 0} {cmp : X → X → Ordering} (answers : P → X → Bool
   loan_alike acts end old old' (Loaned told) reply' new new' alike wrote fine fine' h k = absurd k
   loan_alike acts end old old' reply reply' new new' alike wrote fine fine' h k = absurd h
 
-  steps_alike : (command : Command X P) (commands : List (Command X P)) (old old' : List X) (reply reply' : Reply X) (new new' : List X) → IsSettled command → IsAmong values (items_in (command ∷ commands)) → AreAlike cmp values old old' → IsUnrefused reply → IsUnrefused reply' → Step cmp answers old command reply new → Step cmp answers old' command reply' new' → StepsAlike reply reply' new new'
+  steps_alike : (command : Command X P) (commands : List (Command X P)) (old old' : List X) (reply reply' : Reply X) (new new' : List X) → IsSettled command → IsAmong values (items_in (command ∷ commands)) → AreAlike cmp values old old' → IsUnrefused reply → IsUnrefused reply' → Step cmp calls old command reply new → Step cmp calls old' command reply' new' → StepsAlike reply reply' new new'
   steps_alike (Push x) commands old old' reply reply' new new' settled brought alike fine fine' step step' =
       let h = push_says x old reply new fine step in
       let k = push_says x old' reply' new' fine' step' in
@@ -269,15 +269,15 @@ module _ {X P : Type 0} {cmp : X → X → Ordering} (answers : P → X → Bool
   brought_later (Loan acts end) commands h = λ y in'. h y (Contains-append_right (written acts) (items_in commands) y in')
   brought_later command commands h = h
 
-  runs_alike : (commands : List (Command X P)) (old old' : List X) (replies replies' : List (Reply X)) (states states' : List (List X)) → AllByRecursion IsSettled commands → IsAmong values (items_in commands) → AreAlike cmp values old old' → AllByRecursion IsUnrefused replies → AllByRecursion IsUnrefused replies' → Run cmp answers old commands replies states → Run cmp answers old' commands replies' states' → (replies ≡ replies') × IsSameBag (last_state old states) (last_state old' states')
+  runs_alike : (commands : List (Command X P)) (old old' : List X) (replies replies' : List (Reply X)) (states states' : List (List X)) → AllByRecursion IsSettled commands → IsAmong values (items_in commands) → AreAlike cmp values old old' → AllByRecursion IsUnrefused replies → AllByRecursion IsUnrefused replies' → Steps cmp calls old commands replies states → Steps cmp calls old' commands replies' states' → (replies ≡ replies') × IsSameBag (last_state old states) (last_state old' states')
   runs_alike [] old old' [] [] [] [] settled brought alike fine fine' run run' = (refl, alike.bag)
   runs_alike [] old old' [] replies' [] states' settled brought alike fine fine' run run' = absurd run'
   runs_alike (command ∷ commands) old old' (reply ∷ replies) (reply' ∷ replies') (new ∷ states) (new' ∷ states') settled brought alike fine fine' run run' =
       let here = steps_alike command commands old old' reply reply' new new' settled.0 brought alike fine.0 fine'.0 run.0 run'.0 in
       let alike' : AreAlike cmp values new new' = record {
         bag = here.bag;
-        first = Step-state answers total old command reply new alike.first run.0;
-        second = Step-state answers total old' command reply' new' alike.second run'.0;
+        first = Step-state calls total old command reply new alike.first run.0;
+        second = Step-state calls total old' command reply' new' alike.second run'.0;
         among = here.among;
       } in
       let more = runs_alike commands new new' replies replies' states states' settled.1 (brought_later command commands brought) alike' fine.1 fine'.1 run.1 run'.1 in
@@ -285,13 +285,13 @@ module _ {X P : Type 0} {cmp : X → X → Ordering} (answers : P → X → Bool
   runs_alike (command ∷ commands) old old' (reply ∷ replies) replies' (new ∷ states) states' settled brought alike fine fine' run run' = absurd run'
   runs_alike commands old old' replies replies' states states' settled brought alike fine fine' run run' = absurd run
 
-module _ {X P : Type 0} {cmp : X → X → Ordering} (answers : P → X → Bool → P → Type 0) (total : IsTotalOrder cmp) where
-  pub same_replies : SameRepliesAtTwoArities cmp answers
+module _ {X P : Type 0} {cmp : X → X → Ordering} (calls : P → X → Bool → P → Type 0) (total : IsTotalOrder cmp) where
+  pub same_replies : SameRepliesAtTwoArities cmp calls
   same_replies commands start start' replies replies' end end' settled same untied run run' =
       let alike : AreAlike cmp (start ++ items_in commands) start start' = record { bag = same; first = run.begins; second = run'.begins; among = λ y in'. Contains-append_left start (items_in commands) y in' } in
-      let both = runs_alike answers total (start ++ items_in commands) untied commands start start' replies replies' run.states run'.states settled (λ y in'. Contains-append_right start (items_in commands) y in') alike run.unrefused run'.unrefused run.run run'.run in
+      let both = runs_alike calls total (start ++ items_in commands) untied commands start start' replies replies' run.states run'.states settled (λ y in'. Contains-append_right start (items_in commands) y in') alike run.unrefused run'.unrefused run.run run'.run in
       (both.0, subst (λ l. IsSameBag l end') run.ends (subst (IsSameBag (last_state start run.states)) run'.ends both.1))
 
 -- a run of the code in which nothing is refused is one of the machine
-pub RunsUnrefused-from : {X P : Type 0} {cmp : X → X → Ordering} {answers : P → X → Bool → P → Type 0} {D : ℕ} (old new : Contents X) (commands : List (Command X P)) (replies : List (Reply X)) → Runs cmp answers D old commands replies new → AllByRecursion IsUnrefused replies → RunsUnrefused cmp answers old.items commands replies new.items
+pub RunsUnrefused-from : {X P : Type 0} {cmp : X → X → Ordering} {calls : P → X → Bool → P → Type 0} {D : ℕ} (old new : Contents X) (commands : List (Command X P)) (replies : List (Reply X)) → Runs cmp calls D old commands replies new → AllByRecursion IsUnrefused replies → RunsUnrefused cmp calls old.items commands replies new.items
 RunsUnrefused-from old new commands replies runs unrefused = record { states = runs.states; begins = runs.begins; run = runs.run; ends = runs.ends; unrefused = unrefused }

@@ -21,7 +21,7 @@ module _ {X : Type 0} where
   some : (xs ys : List X) → IsSameState xs ys → xs ≢ [] → ys ≢ []
   some xs ys h k e = k (none ys xs (turned xs ys h) e)
 
-module _ {X P : Type 0} (cmp : X → X → Ordering) (answers : P → X → Bool → P → Type 0) (old old' new new' : List X) (from : IsSameState old old') (to : IsSameState new new') where
+module _ {X P : Type 0} (cmp : X → X → Ordering) (calls : P → X → Bool → P → Type 0) (old old' new new' : List X) (from : IsSameState old old') (to : IsSameState new new') where
   kept : IsSameState old new → IsSameState old' new'
   kept h = both old' old new' (turned old old' from) (both old new new' h to)
 
@@ -35,7 +35,7 @@ module _ {X P : Type 0} (cmp : X → X → Ordering) (answers : P → X → Bool
   popped : (m : X) → Pops cmp old m new → Pops cmp old' m new'
   popped m h = (from.first ∙ h.0, IsPermutation-trans _ _ _ (IsPermutation-sym _ _ from.bag) (IsPermutation-trans _ _ _ h.1 (IsPermutation-cons m new new' to.bag)), IsState-same new new' h.2 to)
 
-  asked : (p : P) (answer : Bool) → MayAnswer cmp answers old p answer → MayAnswer cmp answers old' p answer
+  asked : (p : P) (answer : Bool) → MayAnswer cmp calls old p answer → MayAnswer cmp calls old' p answer
   asked p answer h = (h.0, from.first ∙ h.1, h.2)
 
   ended : (last : X) (left : List X) (end : End) (given : Option X) → Ends cmp last left end given new → Ends cmp last left end given new'
@@ -43,36 +43,36 @@ module _ {X P : Type 0} (cmp : X → X → Ordering) (answers : P → X → Bool
   ended last left TakeOut (Some v) h = (h.0, IsPermutation-trans _ _ _ h.1 to.bag, IsState-same new new' h.2 to)
   ended last left end given h = absurd h
 
-module _ {X P : Type 0} (cmp : X → X → Ordering) (answers : P → X → Bool → P → Type 0) where
+module _ {X P : Type 0} (cmp : X → X → Ordering) (calls : P → X → Bool → P → Type 0) where
   in_turn : (old old' : List X) (k : ℕ) (taken : List X) → IsSameState old old' → PopsInTurn cmp old k taken → PopsInTurn cmp old' k taken
   in_turn old old' zero taken from h = h
   in_turn old old' (suc k) [] from h = none old old' from h
-  in_turn old old' (suc k) (m ∷ taken) from h = (h.0, popped cmp answers old old' h.0 h.0 from (same_state _ _ refl) m h.1, h.2)
+  in_turn old old' (suc k) (m ∷ taken) from h = (h.0, popped cmp calls old old' h.0 h.0 from (same_state _ _ refl) m h.1, h.2)
 
-  pub Step-same_state : (command : Command X P) (reply : Reply X) (old old' new new' : List X) → IsSameState old old' → IsSameState new new' → Step cmp answers old command reply new → Step cmp answers old' command reply new'
+  pub Step-same_state : (command : Command X P) (reply : Reply X) (old old' new new' : List X) → IsSameState old old' → IsSameState new new' → Step cmp calls old command reply new → Step cmp calls old' command reply new'
   Step-same_state (Push x) Pushed old old' new new' from to h = (
     IsPermutation-trans _ _ _ (IsPermutation-cons x old' old (IsPermutation-sym _ _ from.bag)) (IsPermutation-trans _ _ _ h.0 to.bag),
     to.first ∙ h.1 ∙ ap (λ f. Some (front_with cmp x f)) (sym from.first),
   )
-  Step-same_state (Push x) (PushRefused y) old old' new new' from to h = (h.0, kept cmp answers old old' new new' from to h.1)
+  Step-same_state (Push x) (PushRefused y) old old' new new' from to h = (h.0, kept cmp calls old old' new new' from to h.1)
   Step-same_state Pop (Popped None) old old' new new' from to h = (none old old' from h.0, none new new' to h.1)
-  Step-same_state Pop (Popped (Some m)) old old' new new' from to h = popped cmp answers old old' new new' from to m h
+  Step-same_state Pop (Popped (Some m)) old old' new new' from to h = popped cmp calls old old' new new' from to m h
   Step-same_state (Ask p) (Asked None) old old' new new' from to h = (none old old' from h.0, none new new' to h.1)
-  Step-same_state (Ask p) (Asked (Some answer)) old old' new new' from to h = (asked cmp answers old old' new new' from to p answer h.0, kept cmp answers old old' new new' from to h.1)
+  Step-same_state (Ask p) (Asked (Some answer)) old old' new new' from to h = (asked cmp calls old old' new new' from to p answer h.0, kept cmp calls old old' new new' from to h.1)
   Step-same_state (PopIf p) (Popped None) old old' new new' from to h = elim h [
     | inl nothing ↦ inl (none old old' from nothing.0, none new new' to nothing.1)
-    | inr told ↦ inr (asked cmp answers old old' new new' from to p false told.0, kept cmp answers old old' new new' from to told.1)
+    | inr told ↦ inr (asked cmp calls old old' new new' from to p false told.0, kept cmp calls old old' new new' from to told.1)
   ]
-  Step-same_state (PopIf p) (Popped (Some m)) old old' new new' from to h = (popped cmp answers old old' new new' from to m h.0, h.1)
-  Step-same_state Len (Size n) old old' new new' from to h = (h.0 ∙ sym (length_permutation old old' from.bag), kept cmp answers old old' new new' from to h.1)
-  Step-same_state (Reserve n) Done old old' new new' from to h = kept cmp answers old old' new new' from to h
-  Step-same_state (Reserve n) Refused old old' new new' from to h = kept cmp answers old old' new new' from to h
-  Step-same_state (Shrink n) Done old old' new new' from to h = kept cmp answers old old' new new' from to h
-  Step-same_state (Shrink n) Refused old old' new new' from to h = kept cmp answers old old' new new' from to h
-  Step-same_state (Extend xs) Done old old' new new' from to h = joined cmp answers old old' new new' from to xs h
-  Step-same_state (Extend xs) ExtendRefused old old' new new' from to h = (h.0, h.1, h.2, h.3, joined cmp answers old old' new new' from to h.0 h.4)
-  Step-same_state (Append other) Done old old' new new' from to h = joined cmp answers old old' new new' from to other h
-  Step-same_state (Append other) (AppendRefused back) old old' new new' from to h = (h.0, kept cmp answers old old' new new' from to h.1)
+  Step-same_state (PopIf p) (Popped (Some m)) old old' new new' from to h = (popped cmp calls old old' new new' from to m h.0, h.1)
+  Step-same_state Len (Size n) old old' new new' from to h = (h.0 ∙ sym (length_permutation old old' from.bag), kept cmp calls old old' new new' from to h.1)
+  Step-same_state (Reserve n) Done old old' new new' from to h = kept cmp calls old old' new new' from to h
+  Step-same_state (Reserve n) Refused old old' new new' from to h = kept cmp calls old old' new new' from to h
+  Step-same_state (Shrink n) Done old old' new new' from to h = kept cmp calls old old' new new' from to h
+  Step-same_state (Shrink n) Refused old old' new new' from to h = kept cmp calls old old' new new' from to h
+  Step-same_state (Extend xs) Done old old' new new' from to h = joined cmp calls old old' new new' from to xs h
+  Step-same_state (Extend xs) ExtendRefused old old' new new' from to h = (h.0, h.1, h.2, h.3, joined cmp calls old old' new new' from to h.0 h.4)
+  Step-same_state (Append other) Done old old' new new' from to h = joined cmp calls old old' new new' from to other h
+  Step-same_state (Append other) (AppendRefused back) old old' new new' from to h = (h.0, kept cmp calls old old' new new' from to h.1)
   Step-same_state (Retain p) Done old old' new new' from to h = (
     h.0,
     h.1,
@@ -84,9 +84,9 @@ module _ {X P : Type 0} (cmp : X → X → Ordering) (answers : P → X → Bool
   )
   Step-same_state Clear Done old old' new new' from to h = none new new' to h
   Step-same_state (Drain k) (Taken taken) old old' new new' from to h = ((h.0.0, both old' old h.0.0 (turned old old' from) h.0.1, h.0.2), none new new' to h.1)
-  Step-same_state (Drain k) Refused old old' new new' from to h = (some old old' from h.0, h.1, kept cmp answers old old' new new' from to h.2)
+  Step-same_state (Drain k) Refused old old' new new' from to h = (some old old' from h.0, h.1, kept cmp calls old old' new new' from to h.2)
   Step-same_state (DrainSorted k) (Taken taken) old old' new new' from to h = (in_turn old old' k taken from h.0, none new new' to h.1)
-  Step-same_state (DrainSorted k) Refused old old' new new' from to h = (some old old' from h.0, h.1, kept cmp answers old old' new new' from to h.2)
+  Step-same_state (DrainSorted k) Refused old old' new new' from to h = (some old old' from h.0, h.1, kept cmp calls old old' new new' from to h.2)
   Step-same_state (Loan acts end) (Loaned None) old old' new new' from to h = (none old old' from h.0, none new new' to h.1)
   Step-same_state (Loan acts end) (Loaned (Some told)) old old' new new' from to h = (
     h.0,
@@ -96,7 +96,7 @@ module _ {X P : Type 0} (cmp : X → X → Ordering) (answers : P → X → Bool
     from.first ∙ h.4,
     IsPermutation-trans _ _ _ (IsPermutation-sym _ _ from.bag) h.5,
     h.6,
-    ended cmp answers old old' new new' from to h.2 h.3 end told.1 h.7,
+    ended cmp calls old old' new new' from to h.2 h.3 end told.1 h.7,
   )
-  Step-same_state (Loan acts end) Refused old old' new new' from to h = (some old old' from h.0, h.1, kept cmp answers old old' new new' from to h.2)
+  Step-same_state (Loan acts end) Refused old old' new new' from to h = (some old old' from h.0, h.1, kept cmp calls old old' new new' from to h.2)
   Step-same_state command reply old old' new new' from to h = absurd h

@@ -31,11 +31,11 @@ added xs ys x h y in' = Contains-permutation _ _ y (IsPermutation-sym _ _ (IsPer
 pub rest_among : {X : Type 0} (xs ys : List X) (m : X) → IsPermutation xs (m ∷ ys) → (y : X) → Contains ys y → Contains (xs ++ []) y
 rest_among xs ys m h y in' = Contains-append_left xs [] y (Contains-permutation _ _ y (IsPermutation-sym _ _ h) (Contains-append_right (m ∷ []) ys y in'))
 
-module _ {X P : Type 0} {cmp : X → X → Ordering} {answers : P → X → Bool → P → Type 0} {D : ℕ} where
+module _ {X P : Type 0} {cmp : X → X → Ordering} {calls : P → X → Bool → P → Type 0} {D : ℕ} where
   -- a step after which the items are those before
-  pub serves_unchanged : (old new : Contents X) (command : Command X P) (reply : Reply X) → new.items ≡ old.items → new.comparisons ≡ old.comparisons → IsHeapOrdered cmp D new.items → Step cmp answers old.items command reply old.items → IsServed (room old) command reply → sure_after (room old) command reply ≤ room new → Serves cmp answers D old command reply new
+  pub serves_unchanged : (old new : Contents X) (command : Command X P) (reply : Reply X) → new.items ≡ old.items → new.comparisons ≡ old.comparisons → IsHeapOrdered cmp D new.items → Step cmp calls old.items command reply old.items → IsServed (room old) command reply → sure_after (room old) command reply ≤ room new → Serves cmp calls D old command reply new
   serves_unchanged old new command reply same uncounted ordered step served sure = record {
-    step = subst (Step cmp answers old.items command reply) (sym same) step;
+    step = subst (Step cmp calls old.items command reply) (sym same) step;
     charged = record { rises = omega (arith, uncounted); within = omega (arith, uncounted) };
     served = served;
     sure = sure;
@@ -43,7 +43,7 @@ module _ {X P : Type 0} {cmp : X → X → Ordering} {answers : P → X → Bool
     among = λ y in'. Contains-append_left old.items (items_in (command ∷ [])) y (subst (λ l. Contains l y) same in');
   }
 
-  pub pushed : (old new : Contents X) (x : X) → IsPermutation (x ∷ old.items) new.items → front new.items ≡ Some (front_with cmp x (front old.items)) → IsHeapOrdered cmp D new.items → RisesWithin old.comparisons new.comparisons (push_bound D (length old.items)) → old.capacity ≤ new.capacity → Serves cmp answers D old (Push x) Pushed new
+  pub pushed : (old new : Contents X) (x : X) → IsPermutation (x ∷ old.items) new.items → front new.items ≡ Some (front_with cmp x (front old.items)) → IsHeapOrdered cmp D new.items → RisesWithin old.comparisons new.comparisons (push_bound D (length old.items)) → old.capacity ≤ new.capacity → Serves cmp calls D old (Push x) Pushed new
   pushed old new x bag first ordered charged more = record {
     step = (bag, first);
     charged = charged;
@@ -53,7 +53,7 @@ module _ {X P : Type 0} {cmp : X → X → Ordering} {answers : P → X → Bool
     among = added old.items new.items x bag;
   }
 
-  pub push_refused : (old new : Contents X) (x y : X) → new ≡ old → y ≡ x → length old.items ≡ old.capacity → IsHeapOrdered cmp D new.items → Serves cmp answers D old (Push x) (PushRefused y) new
+  pub push_refused : (old new : Contents X) (x y : X) → new ≡ old → y ≡ x → length old.items ≡ old.capacity → IsHeapOrdered cmp D new.items → Serves cmp calls D old (Push x) (PushRefused y) new
   push_refused old new x y same back full ordered = rw same record {
     step = (back, same_state _ _ refl);
     charged = none_counted _ _;
@@ -63,7 +63,7 @@ module _ {X P : Type 0} {cmp : X → X → Ordering} {answers : P → X → Bool
     among = λ y in'. Contains-append_left old.items (x ∷ []) y in';
   }
 
-  pub pops : IsTotalOrder cmp → (old new : Contents X) (r : Option X) → (IsSome r ↔ (0 < length old.items)) → r ≡ slice_get old.items 0 → IfSome r (λ m. IsPermutation old.items (m ∷ new.items)) → IsHeapOrdered cmp D new.items → RisesWithin old.comparisons new.comparisons (pop_bound D (length old.items)) → new.capacity ≡ old.capacity → IfNone r (new ≡ old) → Serves cmp answers D old Pop (Popped r) new
+  pub pops : IsTotalOrder cmp → (old new : Contents X) (r : Option X) → (IsSome r ↔ (0 < length old.items)) → r ≡ slice_get old.items 0 → IfSome r (λ m. IsPermutation old.items (m ∷ new.items)) → IsHeapOrdered cmp D new.items → RisesWithin old.comparisons new.comparisons (pop_bound D (length old.items)) → new.capacity ≡ old.capacity → IfNone r (new ≡ old) → Serves cmp calls D old Pop (Popped r) new
   pops total old new None variant first bag ordered charged same unchanged =
       let none : old.items ≡ [] = elim (cases_lt 0 (length old.items)) [ inl some ↦ let given : false ≡ true = variant.1 some in cc | inr few ↦ nil_from_length old.items few ] in
       rw unchanged record {
@@ -83,10 +83,10 @@ module _ {X P : Type 0} {cmp : X → X → Ordering} {answers : P → X → Bool
     among = rest_among old.items new.items m bag;
   }
 
-  answered : (heap : Contents X) (p : P) (m : X) (answer : Bool) (after : P) → answers p m answer after → front heap.items ≡ Some m → IsHeapOrdered cmp D heap.items → Serves cmp answers D heap (Ask p) (Asked (Some answer)) heap
+  answered : (heap : Contents X) (p : P) (m : X) (answer : Bool) (after : P) → calls p m answer after → front heap.items ≡ Some m → IsHeapOrdered cmp D heap.items → Serves cmp calls D heap (Ask p) (Asked (Some answer)) heap
   answered heap p m answer after told first ordered = serves_unchanged heap heap (Ask p) (Asked (Some answer)) refl refl ordered ((m, first, (after, told)), same_state _ _ refl) tt (omega arith)
 
-  unasked : (heap : Contents X) (p : P) → heap.items ≡ [] → IsHeapOrdered cmp D heap.items → Serves cmp answers D heap (Ask p) (Asked None) heap
+  unasked : (heap : Contents X) (p : P) → heap.items ≡ [] → IsHeapOrdered cmp D heap.items → Serves cmp calls D heap (Ask p) (Asked None) heap
   unasked heap p none ordered = serves_unchanged heap heap (Ask p) (Asked None) refl refl ordered (none, none) tt (omega arith)
 
 -- the one item of a list is among those that have it

@@ -59,14 +59,14 @@ popped_counted {D = D} old new x most pop h =
     let fewer : pops_bound D (length new.items) ≡ pops_bound D (length old.items - 1) = ap (pops_bound D) pop.len in
     omega (arith, pop.counted.within, fewer, pops_bound_step D (length old.items) some, h)
 
-module _ {X P : Type 0} {cmp : X → X → Ordering} {answers : P → X → Bool → P → Type 0} {D : ℕ} where
-  pub drain_refused : (old : Contents X) (k : ℕ) → (min k (length old.items) ≡ 0 → ⊥) → IsHeapOrdered cmp D old.items → Serves cmp answers D old (Drain k) Refused old
+module _ {X P : Type 0} {cmp : X → X → Ordering} {calls : P → X → Bool → P → Type 0} {D : ℕ} where
+  pub drain_refused : (old : Contents X) (k : ℕ) → (min k (length old.items) ≡ 0 → ⊥) → IsHeapOrdered cmp D old.items → Serves cmp calls D old (Drain k) Refused old
   drain_refused old k some ordered = let w = wanted old.items k some in serves_unchanged old old (Drain k) Refused refl refl ordered (w.0, w.1, same_state _ _ refl) tt (omega arith)
 
-  pub sorted_refused : (old : Contents X) (k : ℕ) → (min k (length old.items) ≡ 0 → ⊥) → IsHeapOrdered cmp D old.items → Serves cmp answers D old (DrainSorted k) Refused old
+  pub sorted_refused : (old : Contents X) (k : ℕ) → (min k (length old.items) ≡ 0 → ⊥) → IsHeapOrdered cmp D old.items → Serves cmp calls D old (DrainSorted k) Refused old
   sorted_refused old k some ordered = let w = wanted old.items k some in serves_unchanged old old (DrainSorted k) Refused refl refl ordered (w.0, w.1, same_state _ _ refl) tt (omega arith)
 
-  pub drained : (old new : Contents X) (k : ℕ) (taken : List X) → taken ≡ take (min k (length old.items)) old.items → new.items ≡ [] → new.comparisons ≡ old.comparisons → Serves cmp answers D old (Drain k) (Taken taken) new
+  pub drained : (old new : Contents X) (k : ℕ) (taken : List X) → taken ≡ take (min k (length old.items)) old.items → new.items ≡ [] → new.comparisons ≡ old.comparisons → Serves cmp calls D old (Drain k) (Taken taken) new
   drained old new k taken is none uncounted = record {
     step = ((old.items, same_state _ _ refl, is ∙ take_min k old.items), none);
     charged = record { rises = omega (arith, uncounted); within = omega (arith, uncounted) };
@@ -77,7 +77,7 @@ module _ {X P : Type 0} {cmp : X → X → Ordering} {answers : P → X → Bool
   }
 
   -- what the iterator leaves behind its reference when it is dropped is what the heap is then
-  pub drained_sorted : (old new end : Contents X) (k : ℕ) (taken left : List X) → new ≡ end → PopsThrough cmp old.items taken left → length taken ≡ min k (length old.items) → length taken + length left ≡ length old.items → end.items ≡ [] → RisesWithin old.comparisons end.comparisons (pops_bound D (length old.items)) → Serves cmp answers D old (DrainSorted k) (Taken taken) new
+  pub drained_sorted : (old new end : Contents X) (k : ℕ) (taken left : List X) → new ≡ end → PopsThrough cmp old.items taken left → length taken ≡ min k (length old.items) → length taken + length left ≡ length old.items → end.items ≡ [] → RisesWithin old.comparisons end.comparisons (pops_bound D (length old.items)) → Serves cmp calls D old (DrainSorted k) (Taken taken) new
   drained_sorted old new end k taken left back through long all none counted = rw back record {
     step = (PopsThrough-in_turn cmp k old.items taken left through (omega (arith, long)) (λ fewer. nil_from_length left (omega (arith, long, all))), none);
     charged = counted;

@@ -159,16 +159,16 @@ module _ {X : Type 0} (cmp : X → X → Ordering) (D : ℕ) where
     pub ended : RisesWithin mid.comparisons end.comparisons last_cost
     pub ordered : IsHeapOrdered cmp D end.items
 
-module _ {X P : Type 0} {cmp : X → X → Ordering} {answers : P → X → Bool → P → Type 0} {D : ℕ} where
+module _ {X P : Type 0} {cmp : X → X → Ordering} {calls : P → X → Bool → P → Type 0} {D : ℕ} where
   -- there is no item to lend
-  pub loan_of_none : (old : Contents X) (acts : List (Act X)) (end : End) → length old.items ≡ 0 → IsHeapOrdered cmp D old.items → Serves cmp answers D old (Loan acts end) (Loaned None) old
+  pub loan_of_none : (old : Contents X) (acts : List (Act X)) (end : End) → length old.items ≡ 0 → IsHeapOrdered cmp D old.items → Serves cmp calls D old (Loan acts end) (Loaned None) old
   loan_of_none old acts end none ordered = let is = nil_from_length old.items (omega (arith, none)) in serves_unchanged old old (Loan acts end) (Loaned None) refl refl ordered (is, is) tt (omega arith)
 
-  pub loan_refused : (old : Contents X) (acts : List (Act X)) (end : End) → (length old.items ≡ 0 → ⊥) → (length acts ≡ 0 → ⊥) → IsHeapOrdered cmp D old.items → Serves cmp answers D old (Loan acts end) Refused old
+  pub loan_refused : (old : Contents X) (acts : List (Act X)) (end : End) → (length old.items ≡ 0 → ⊥) → (length acts ≡ 0 → ⊥) → IsHeapOrdered cmp D old.items → Serves cmp calls D old (Loan acts end) Refused old
   loan_refused old acts end some wanted ordered = serves_unchanged old old (Loan acts end) Refused refl refl ordered ((λ e. some (ap length e)), (λ e. wanted (ap length e)), same_state _ _ refl) tt (omega arith)
 
   -- what the loan leaves behind its reference is what the heap is then
-  pub put_back : IsTotalOrder cmp → (old mid end new : Contents X) (acts : List (Act X)) (seen : List (Seen X)) → new ≡ end → IsLoan cmp D old mid end acts seen (sink_bound D (length mid.items)) → IsSameBag mid.items end.items → ((IsExceeded cmp mid.items → ⊥) → front end.items ≡ front mid.items) → Serves cmp answers D old (Loan acts PutBack) (Loaned (Some (seen, None))) new
+  pub put_back : IsTotalOrder cmp → (old mid end new : Contents X) (acts : List (Act X)) (seen : List (Seen X)) → new ≡ end → IsLoan cmp D old mid end acts seen (sink_bound D (length mid.items)) → IsSameBag mid.items end.items → ((IsExceeded cmp mid.items → ⊥) → front end.items ≡ front mid.items) → Serves cmp calls D old (Loan acts PutBack) (Loaned (Some (seen, None))) new
   put_back total old mid end new acts seen back h bag first =
       let a = h.acted in
       rw back record {
@@ -180,7 +180,7 @@ module _ {X P : Type 0} {cmp : X → X → Ordering} {answers : P → X → Bool
         among = λ x in'. brought cmp old.items acts seen mid.items a x (Contains-permutation end.items mid.items x (IsPermutation-sym _ _ bag) in');
       }
 
-  pub taken_out : IsTotalOrder cmp → (old mid end new : Contents X) (acts : List (Act X)) (seen : List (Seen X)) (item : X) → new ≡ end → IsLoan cmp D old mid end acts seen (pop_bound D (length mid.items)) → front mid.items ≡ Some item → IsSameBag mid.items (item ∷ end.items) → Serves cmp answers D old (Loan acts TakeOut) (Loaned (Some (seen, Some item))) new
+  pub taken_out : IsTotalOrder cmp → (old mid end new : Contents X) (acts : List (Act X)) (seen : List (Seen X)) (item : X) → new ≡ end → IsLoan cmp D old mid end acts seen (pop_bound D (length mid.items)) → front mid.items ≡ Some item → IsSameBag mid.items (item ∷ end.items) → Serves cmp calls D old (Loan acts TakeOut) (Loaned (Some (seen, Some item))) new
   taken_out total old mid end new acts seen item back h first bag =
       let a = h.acted in
       let held : Some a.last ≡ Some item = sym (ap front a.to) ∙ first in

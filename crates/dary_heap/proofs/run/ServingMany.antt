@@ -65,8 +65,8 @@ module _ {X : Type 0} {cmp : X → X → Ordering} {D : ℕ} (total : IsTotalOrd
   joined : (old new : Contents X) (xs : List X) → IsExtended cmp D old xs new → IsJoined cmp old.items xs new.items
   joined old new xs h = record { bag = h.bag; state = ordered_state total D new.items h.ordered; first = λ none. ap front (h.unchanged none) }
 
-module _ {X P : Type 0} {cmp : X → X → Ordering} {answers : P → X → Bool → P → Type 0} {D : ℕ} (total : IsTotalOrder cmp) where
-  pub retained : (old new : Contents X) (p : P) → IsRetained answers D p old new → IsHeapOrdered cmp D new.items → Serves cmp answers D old (Retain p) Done new
+module _ {X P : Type 0} {cmp : X → X → Ordering} {calls : P → X → Bool → P → Type 0} {D : ℕ} (total : IsTotalOrder cmp) where
+  pub retained : (old new : Contents X) (p : P) → IsRetained calls D p old new → IsHeapOrdered cmp D new.items → Serves cmp calls D old (Retain p) Done new
   retained old new p h ordered =
       let kept = items_where_true h.answers old.items in
       let n = length new.items in
@@ -79,7 +79,7 @@ module _ {X P : Type 0} {cmp : X → X → Ordering} {answers : P → X → Bool
         among = λ x in'. Contains-append_left old.items [] x (Contains-picked h.answers old.items x (Contains-permutation new.items kept x (IsPermutation-sym kept new.items h.bag) in'));
       }
 
-  pub extended : (old new : Contents X) (xs : List X) → IsExtended cmp D old xs new → Serves cmp answers D old (Extend xs) Done new
+  pub extended : (old new : Contents X) (xs : List X) → IsExtended cmp D old xs new → Serves cmp calls D old (Extend xs) Done new
   extended old new xs h = record {
     step = joined total old new xs h;
     charged = h.counted;
@@ -89,7 +89,7 @@ module _ {X P : Type 0} {cmp : X → X → Ordering} {answers : P → X → Bool
     among = λ x in'. front_of_both old.items xs xs [] x (sym (append-nil xs)) (Contains-permutation new.items (old.items ++ xs) x (IsPermutation-sym (old.items ++ xs) new.items h.bag) in');
   }
 
-  pub cleared : (old new : Contents X) → new.items ≡ [] → new.comparisons ≡ old.comparisons → Serves cmp answers D old Clear Done new
+  pub cleared : (old new : Contents X) → new.items ≡ [] → new.comparisons ≡ old.comparisons → Serves cmp calls D old Clear Done new
   cleared old new none same = record {
     step = none;
     charged = record { rises = omega arith; within = omega arith };
@@ -99,7 +99,7 @@ module _ {X P : Type 0} {cmp : X → X → Ordering} {answers : P → X → Bool
     among = λ x in'. absurd (let here : Contains [] x = subst (λ l. Contains l x) none in' in omega (arith, here.1));
   }
 
-  pub extend_refused : (old new : Contents X) (all xs : List X) (x : X) (left : List X) → all ≡ xs ++ (x ∷ left) → IsExtended cmp D old xs new → Serves cmp answers D old (Extend all) ExtendRefused new
+  pub extend_refused : (old new : Contents X) (all xs : List X) (x : X) (left : List X) → all ≡ xs ++ (x ∷ left) → IsExtended cmp D old xs new → Serves cmp calls D old (Extend all) ExtendRefused new
   extend_refused old new all xs x left split h = record {
     step = (xs, x ∷ left, split, omega arith, joined total old new xs h);
     charged = h.counted;
@@ -109,7 +109,7 @@ module _ {X P : Type 0} {cmp : X → X → Ordering} {answers : P → X → Bool
     among = λ y in'. front_of_both old.items xs all (x ∷ left) y split (Contains-permutation new.items (old.items ++ xs) y (IsPermutation-sym (old.items ++ xs) new.items h.bag) in');
   }
 
-  pub appended : (old new : Contents X) (other : List X) → IsSameBag (old.items ++ other) new.items → (other ≡ [] → new.items ≡ old.items) → IsHeapOrdered cmp D new.items → RisesWithin old.comparisons new.comparisons (mend_bound D (length new.items) (min (length old.items) (length other))) → Serves cmp answers D old (Append other) Done new
+  pub appended : (old new : Contents X) (other : List X) → IsSameBag (old.items ++ other) new.items → (other ≡ [] → new.items ≡ old.items) → IsHeapOrdered cmp D new.items → RisesWithin old.comparisons new.comparisons (mend_bound D (length new.items) (min (length old.items) (length other))) → Serves cmp calls D old (Append other) Done new
   appended old new other bag same_items ordered counted =
       let more : length other ≡ length new.items - length old.items = omega (arith, length_permutation _ _ bag, length-append old.items other) in
       record {
@@ -121,7 +121,7 @@ module _ {X P : Type 0} {cmp : X → X → Ordering} {answers : P → X → Bool
         among = λ x in'. front_of_both old.items other other [] x (sym (append-nil other)) (Contains-permutation new.items (old.items ++ other) x (IsPermutation-sym (old.items ++ other) new.items bag) in');
       }
 
-  pub append_refused : (old new : Contents X) (other back : List X) → new ≡ old → back ≡ other → IsHeapOrdered cmp D new.items → Serves cmp answers D old (Append other) (AppendRefused back) new
+  pub append_refused : (old new : Contents X) (other back : List X) → new ≡ old → back ≡ other → IsHeapOrdered cmp D new.items → Serves cmp calls D old (Append other) (AppendRefused back) new
   append_refused old new other back same returned ordered = rw same record {
     step = (same_state other back returned, same_state _ _ refl);
     charged = none_counted _ _;

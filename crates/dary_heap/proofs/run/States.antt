@@ -63,13 +63,13 @@ module _ {X : Type 0} {cmp : X → X → Ordering} (total : IsTotalOrder cmp) wh
   }
   front_with-greatest (f ∷ old) x h = by_test old x f (h.greatest f refl) (is_gt (cmp x f)) refl
 
-module _ {X P : Type 0} {cmp : X → X → Ordering} (answers : P → X → Bool → P → Type 0) (total : IsTotalOrder cmp) where
+module _ {X P : Type 0} {cmp : X → X → Ordering} (calls : P → X → Bool → P → Type 0) (total : IsTotalOrder cmp) where
   Ends-state : (last : X) (left : List X) (end : End) (popped : Option X) (new : List X) → Ends cmp last left end popped new → IsState cmp new
   Ends-state last left PutBack None new h = h.1
   Ends-state last left TakeOut (Some v) new h = h.2
   Ends-state last left end popped new h = absurd h
 
-  pub Step-state : (old : List X) (command : Command X P) (reply : Reply X) (new : List X) → IsState cmp old → Step cmp answers old command reply new → IsState cmp new
+  pub Step-state : (old : List X) (command : Command X P) (reply : Reply X) (new : List X) → IsState cmp old → Step cmp calls old command reply new → IsState cmp new
   Step-state old (Push x) Pushed new h step = IsState-front new (front_with cmp x (front old)) step.1 (IsGreatest-same_bag (x ∷ old) new _ step.0 (front_with-greatest total old x h))
   Step-state old (Push x) (PushRefused y) new h step = IsState-same old new h step.1
   Step-state old Pop (Popped None) new h step = IsState-empty new step.1
