@@ -44,6 +44,8 @@ SEARCH = "shortest_path"
 DRAWN = ["push_random", "pop", "churn", "build"]
 SHOWN = ["pop", "push_random", "build"]
 SHOWN_SIZES = [10**3, 10**5, 10**7]
+# The size of which the comparisons are shown.
+COMPARED = 10**6
 # Whose time this heap's is divided by, in the order of the tables.
 OTHERS = {
     "crate": "the crate",
@@ -203,11 +205,11 @@ def of_tables(lines, workloads):
 def comparisons(lines):
     """The comparisons an item."""
     rows = [
-        [name, power(items), *(f"{line.comparisons():.2f}" for line in at_arities(lines, workload, items))]
+        [name, *(f"{line.comparisons():.2f}" for line in at_arities(lines, workload, COMPARED))]
         for workload, name in NUMBERS.items()
-        for items in sizes_of(lines, workload)
+        if COMPARED in sizes_of(lines, workload)
     ]
-    return rows_of(["", "items", *heads_of("arity", arities_of(lines))], rows)
+    return rows_of(["", *heads_of("arity", arities_of(lines))], rows)
 
 
 def summary(lines):
