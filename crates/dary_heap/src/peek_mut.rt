@@ -52,7 +52,7 @@ pub struct PeekMut<'a, T: Ord, const D: usize, I: Held<T> = Vec<T>> {
     heap: &'a mut DaryHeap<T, D>,
     items: I,
     written: bool,
-    ghost lent: { IsLent T.cmp D written (I.list items) } by { IsLent-prop T.cmp D written (I.list items) },
+    ghost lent: { IsLent T.cmp D written (I.list items) } by { IsLent-prop _ _ _ (I.list items) },
 }
 
 impl<'a, T: Ord + Drop, const D: usize, I: Held<T>> Drop for PeekMut<'a, T, D, I> {
