@@ -1,23 +1,18 @@
 -- Links in which a pair is merged: they are linked, and the word has the new piece in the place of the two.
-use Rattle.std.proofs.Common.{◌≡◌, ◌≢◌, ℕ, zero, suc, ◌<◌, ◌≤◌, List, [], ◌∷◌, ◌++◌, length, take, drop, slice_set, Some, None, is_some, inl, inr, refl, sym, ap, ◌∙◌, subst, arith, length-set, get_or-set_same, get_or-set_other}
+use Rattle.std.proofs.Common.{◌≡◌, ◌≢◌, ℕ, zero, suc, ◌<◌, ◌≤◌, List, [], ◌∷◌, ◌++◌, length, take, drop, slice_set, Some, None, is_some, inl, inr, refl, sym, ap, ◌∙◌, subst, arith, get_or, length-set, get_or-set_same, get_or-set_other}
 use Rattle.std.proofs.lemmas.Bool.{cases_lt, cases_eq}
-use Rattle.std.proofs.lemmas.List.{drop-set-lt}
+use Rattle.std.proofs.Math.ListN.{get_or-map}
+use Rattle.std.proofs.Math.Seq.{map-set_same}
+use Rattle.std.proofs.lemmas.List.{drop-set-lt, take-set-le}
 use Rattle.dary_heap_pieces.specs.Links.{gone, link, word_of, IsLive, IsLinked, left_joined, right_gone, joined}
 use Rattle.dary_heap_pieces.specs.declared.links.Link.{Link}
 use Rattle.dary_heap_pieces.proofs.Words.{piece_at, next_at, word_of-split, word_of-between, word_of-set_same}
 
 field-set_same : {B : Type 0} (f : Link → B) (links : List Link) (i : ℕ) (v : Link) → f v ≡ f (link links i) → (j : ℕ) → f (link (slice_set links i v) j) ≡ f (link links j)
-field-set_same f [] i v same j = refl
-field-set_same f (l ∷ links) zero v same zero = same
-field-set_same f (l ∷ links) zero v same (suc j) = refl
-field-set_same f (l ∷ links) (suc i) v same zero = refl
-field-set_same f (l ∷ links) (suc i) v same (suc j) = field-set_same f links i v same j
-
-take-set_past : (links : List Link) (n i : ℕ) (v : Link) → n ≤ i → take n (slice_set links i v) ≡ take n links
-take-set_past [] n i v h = refl
-take-set_past (l ∷ links) zero i v h = refl
-take-set_past (l ∷ links) (suc n) zero v h = absurd (omega (arith, h))
-take-set_past (l ∷ links) (suc n) (suc i) v h = ap (λ (xs : List Link). l ∷ xs) (take-set_past links n i v (omega (arith, h)))
+field-set_same f links i v same j =
+    sym (get_or-map f (slice_set links i v) j gone)
+    ∙ ap (λ ys. get_or ys j (f gone)) (map-set_same f links i v gone same)
+    ∙ get_or-map f links j gone
 
 -- what is gone is not live
 pub not_live : (links : List Link) (q : ℕ) → (link links q).piece ≡ None → IsLive links q → {X : Type 0} → X
@@ -225,6 +220,6 @@ module _ (links : List Link) (linked : IsLinked links) (p v : ℕ) (live : IsLiv
   pub word-joined : word_of new ≡ word_of (take p links) ++ v ∷ word_of (drop (suc r) links)
   word-joined =
       let split = word_of-split new p v piece_here in
-      let front : take p new ≡ take p links = take-set_past two p a _ (omega (arith, up, up_r)) ∙ take-set_past one p r _ (omega (arith, up)) ∙ take-set_past links p p _ (omega arith) in
+      let front : take p new ≡ take p links = take-set-le p two a _ (omega (arith, up, up_r)) ∙ take-set-le p one r _ (omega (arith, up)) ∙ take-set-le p links p _ (omega arith) in
       let gap : word_of (drop (suc p) new) ≡ word_of (drop (suc r) new) = word_of-between new (suc p) (suc r) (omega (arith, up)) (λ q low high. gap_none q (omega (arith, low)) (omega (arith, high))) in
       split ∙ ap (λ (xs : List Link). word_of xs ++ v ∷ word_of (drop (suc p) new)) front ∙ ap (λ (ys : List ℕ). word_of (take p links) ++ v ∷ ys) (gap ∙ back_word)

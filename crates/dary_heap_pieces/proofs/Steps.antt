@@ -1,6 +1,7 @@
 -- A candidate that is first: where its pair still has its rank, merging it is a step, and else no pair needs it.
 use Rattle.std.proofs.Common.{◌≡◌, ◌≢◌, ◌⊎◌, ℕ, zero, suc, ◌+◌, ◌<◌, ◌≤◌, List, [], ◌∷◌, ◌++◌, length, take, drop, slice_get, Contains, Option, Some, None, is_some, inl, inr, refl, sym, ap, ◌∙◌, subst, arith, length-append}
-use Rattle.std.proofs.Math.Seq.{take-append_seam}
+use Rattle.std.proofs.Math.Seq.{take-append_seam, drop-append-add}
+use Rattle.std.proofs.lemmas.List.{drop_all}
 use Rattle.std.proofs.lemmas.Bool.{cases_lt, cases_eq}
 use Rattle.std.specs.Cmp.{nat_cmp_is}
 use Rattle.std.specs.Ordering.{nat_cmp, ordering_then}
@@ -19,33 +20,14 @@ use Rattle.dary_heap_pieces.proofs.Joining.{IsLinked-joined, word-joined, live_w
 
 -- ---- lists
 
-get_seam : (xs ys : List ℕ) (x : ℕ) → slice_get (xs ++ x ∷ ys) (length xs) ≡ Some x
-get_seam [] ys x = refl
-get_seam (y ∷ xs) ys x = get_seam xs ys x
-
-get_behind_suc : (xs ys : List ℕ) (x : ℕ) → slice_get (xs ++ x ∷ ys) (suc (length xs)) ≡ slice_get ys 0
-get_behind_suc [] ys x = refl
-get_behind_suc (y ∷ xs) ys x = get_behind_suc xs ys x
-
-get_behind : (xs ys : List ℕ) (x : ℕ) → slice_get (xs ++ x ∷ ys) (length xs + 1) ≡ slice_get ys 0
-get_behind xs ys x = let e : suc (length xs) ≡ length xs + 1 = omega arith in subst (λ (n : ℕ). slice_get (xs ++ x ∷ ys) n ≡ slice_get ys 0) e (get_behind_suc xs ys x)
-
-drop_pair_suc : (xs ys : List ℕ) (x y : ℕ) → drop (suc (suc (length xs))) (xs ++ x ∷ y ∷ ys) ≡ ys
-drop_pair_suc [] ys x y = refl
-drop_pair_suc (z ∷ xs) ys x y = drop_pair_suc xs ys x y
-
-drop_pair : (xs ys : List ℕ) (x y : ℕ) → drop (length xs + 2) (xs ++ x ∷ y ∷ ys) ≡ ys
-drop_pair xs ys x y = let e : suc (suc (length xs)) ≡ length xs + 2 = omega arith in subst (λ (n : ℕ). drop n (xs ++ x ∷ y ∷ ys) ≡ ys) e (drop_pair_suc xs ys x y)
+get_behind : (xs ys : List ℕ) (n k : ℕ) → k ≡ length xs + n → slice_get (xs ++ ys) k ≡ slice_get ys n
+get_behind [] ys n k at = ap (slice_get ys) (omega arith)
+get_behind (x ∷ xs) ys n zero at = absurd (omega arith)
+get_behind (x ∷ xs) ys n (suc k) at = get_behind xs ys n k (omega arith)
 
 option_cases : (o : Option ℕ) → (o ≡ None) ⊎ ((x : ℕ) × (o ≡ Some x))
 option_cases None = inl refl
 option_cases (Some x) = inr (x, refl)
-
-nothing_left : (links : List Link) (place : ℕ) → length links ≤ place → drop place links ≡ []
-nothing_left [] zero h = refl
-nothing_left [] (suc place) h = refl
-nothing_left (l ∷ links) zero h = absurd (omega (arith, h))
-nothing_left (l ∷ links) (suc place) h = nothing_left links place (omega (arith, h))
 
 -- ---- pairs of the links and pairs of the word
 
@@ -68,8 +50,16 @@ piece_behind links place y lands is = elim (cases_lt place (length links)) [
     | inl none ↦ not_live links place none (lands within)
     | inr some ↦ some.1 ∙ sym (ap (λ (ys : List ℕ). slice_get ys 0) (word_of-at links place some.0 some.1)) ∙ is
   ])
-  | inr past ↦ (let e = rw (nothing_left links place past) at is in absurd (cc))
+  | inr past ↦ (let e = rw (drop_all place links past) at is in absurd (cc))
 ]
+
+-- what the merge of a pair leaves: a step further there is a piece less, and each pair is offered once the two of the new piece are
+pub record IsMergedAt (table : ℕ → ℕ → Option Merge) (links : List Link) (place : ℕ) (items : List (Reverse (ℕ × ℕ))) (new : List Link) : Type 0 where
+  pub linked : IsLinked new
+  pub step : IsStep table (word_of links) (word_of new)
+  pub one_less : length (word_of new) + 1 ≡ length (word_of links)
+  pub some_left : 0 < length (word_of new)
+  pub offered : (items' : List (Reverse (ℕ × ℕ))) → ((c : Reverse (ℕ × ℕ)) → Contains items c → Contains items' c) → ((m : Merge) → standing table new place ≡ Some m → Contains items' (candidate m.rank place)) → ((m : Merge) → standing table new (link new place).previous ≡ Some m → Contains items' (candidate m.rank (link new place).previous)) → IsOffered table new items'
 
 module _ (table : ℕ → ℕ → Option Merge) (links : List Link) (linked : IsLinked links) where
   word_is : (place : ℕ) (merge : Merge) (h : HasMerge table (piece_at links place) (piece_at links (next_at links place)) merge) → word_of links ≡ word_of (take place links) ++ h.x ∷ h.y ∷ word_of (drop (suc (next_at links place)) links)
@@ -87,8 +77,8 @@ module _ (table : ℕ → ℕ → Option Merge) (links : List Link) (linked : Is
       record {
         left = h.x;
         right = h.y;
-        first = ap (λ (ys : List ℕ). slice_get ys (length front)) word ∙ get_seam front (h.y ∷ back) h.x;
-        second = ap (λ (ys : List ℕ). slice_get ys (length front + 1)) word ∙ get_behind front (h.y ∷ back) h.x;
+        first = ap (λ (ys : List ℕ). slice_get ys (length front)) word ∙ get_behind front (h.x ∷ h.y ∷ back) 0 (length front) (omega arith);
+        second = ap (λ (ys : List ℕ). slice_get ys (length front + 1)) word ∙ get_behind front (h.x ∷ h.y ∷ back) 1 (length front + 1) refl;
         has = h.has;
       }
 
@@ -101,7 +91,7 @@ module _ (table : ℕ → ℕ → Option Merge) (links : List Link) (linked : Is
       let live : IsLive links place = ap is_some found.piece in
       let split = word_of-split links place h.left found.piece in
       let second : slice_get (word_of (drop (suc place) links)) 0 ≡ Some h.right =
-      sym (get_behind front (word_of (drop (suc place) links)) h.left)
+      sym (get_behind front (h.left ∷ word_of (drop (suc place) links)) 1 (length front + 1) refl)
       ∙ sym (ap (λ (ys : List ℕ). slice_get ys (length front + 1)) split)
       ∙ ap (λ (n : ℕ). slice_get (word_of links) (n + 1)) found.before
       ∙ h.second in
@@ -141,13 +131,13 @@ module _ (table : ℕ → ℕ → Option Merge) (links : List Link) (linked : Is
       pair : HasMerge table (piece_at links place) (piece_at links (next_at links place)) merge
       pair = has_merge table (piece_at links place) (piece_at links (next_at links place)) merge is
 
-      pub live_left : IsLive links place
+      live_left : IsLive links place
       live_left = ap is_some pair.first
 
-      pub within_right : next_at links place < length links
+      within_right : next_at links place < length links
       within_right = live_within links (next_at links place) (ap is_some pair.second)
 
-      pub linked_new : IsLinked new
+      linked_new : IsLinked new
       linked_new = IsLinked-joined links linked place merge.piece live_left within_right
 
       before_all : (i : ℕ) (m : Merge) → IsMergeAt table (word_of links) i m → (merge.rank ≤ m.rank) × (m.rank ≡ merge.rank → position links place ≤ i)
@@ -165,7 +155,7 @@ module _ (table : ℕ → ℕ → Option Merge) (links : List Link) (linked : Is
           ]
 
       -- merging it is a step
-      pub IsStep-joined : IsStep table (word_of links) (word_of new)
+      IsStep-joined : IsStep table (word_of links) (word_of new)
       IsStep-joined =
           let front = word_of (take place links) in
           let back = word_of (drop (suc (next_at links place)) links) in
@@ -179,16 +169,16 @@ module _ (table : ℕ → ℕ → Option Merge) (links : List Link) (linked : Is
             merged =
                 word-joined links linked place merge.piece live_left within_right
                 ∙ ap (λ (ys : List ℕ). ys ++ merge.piece ∷ back) (sym (take-append_seam front (pair.x ∷ pair.y ∷ back)) ∙ ap (take (length front)) (sym word))
-                ∙ ap (λ (ys : List ℕ). take (length front) (word_of links) ++ merge.piece ∷ ys) (sym (drop_pair front back pair.x pair.y) ∙ ap (drop (length front + 2)) (sym word));
+                ∙ ap (λ (ys : List ℕ). take (length front) (word_of links) ++ merge.piece ∷ ys) (sym (drop-append-add front (pair.x ∷ pair.y ∷ back) 2) ∙ ap (drop (length front + 2)) (sym word));
           }
 
-      pub one_less : length (word_of new) + 1 ≡ length (word_of links)
+      one_less : length (word_of new) + 1 ≡ length (word_of links)
       one_less =
           let front = word_of (take place links) in
           let back = word_of (drop (suc (next_at links place)) links) in
           omega (arith, ap length (word-joined links linked place merge.piece live_left within_right), ap length (word_is place merge pair), length-append front (merge.piece ∷ back), length-append front (pair.x ∷ pair.y ∷ back))
 
-      pub some_left : 0 < length (word_of new)
+      some_left : 0 < length (word_of new)
       some_left =
           let front = word_of (take place links) in
           let back = word_of (drop (suc (next_at links place)) links) in
@@ -211,7 +201,7 @@ module _ (table : ℕ → ℕ → Option Merge) (links : List Link) (linked : Is
           ]
 
       -- once the two pairs of the new piece are offered, each pair is
-      pub IsOffered-joined : (items' : List (Reverse (ℕ × ℕ))) → ((c : Reverse (ℕ × ℕ)) → Contains items c → Contains items' c) → ((m : Merge) → standing table new place ≡ Some m → Contains items' (candidate m.rank place)) → ((m : Merge) → standing table new (link new place).previous ≡ Some m → Contains items' (candidate m.rank (link new place).previous)) → IsOffered table new items'
+      IsOffered-joined : (items' : List (Reverse (ℕ × ℕ))) → ((c : Reverse (ℕ × ℕ)) → Contains items c → Contains items' c) → ((m : Merge) → standing table new place ≡ Some m → Contains items' (candidate m.rank place)) → ((m : Merge) → standing table new (link new place).previous ≡ Some m → Contains items' (candidate m.rank (link new place).previous)) → IsOffered table new items'
       IsOffered-joined items' kept here back = record {
         each = λ q m stands.
             let h = has_merge table (piece_at new q) (piece_at new (next_at new q)) m stands in
@@ -241,6 +231,15 @@ module _ (table : ℕ → ℕ → Option Merge) (links : List Link) (linked : Is
                     ])
               ])
             ];
+      }
+
+      pub merged_at : (after : List Link) → after ≡ new → IsMergedAt table links place items after
+      merged_at after is_new = subst (IsMergedAt table links place items) (sym is_new) record {
+        linked = linked_new;
+        step = IsStep-joined;
+        one_less = one_less;
+        some_left = some_left;
+        offered = IsOffered-joined;
       }
 
 -- ---- steps in a row

@@ -1,6 +1,7 @@
 -- The word of links: where its pieces stand.
-use Rattle.std.proofs.Common.{◌≡◌, ℕ, zero, suc, ◌+◌, ◌<◌, ◌≤◌, List, [], ◌∷◌, ◌++◌, length, take, drop, slice_get, slice_set, Option, Some, None, refl, ap, ◌∙◌, arith}
-use Rattle.std.proofs.lemmas.List.{take_more}
+use Rattle.std.proofs.Common.{◌≡◌, ℕ, zero, suc, ◌+◌, ◌-◌, ◌<◌, ◌≤◌, List, [], ◌∷◌, ◌++◌, length, take, drop, slice_get, slice_set, Option, Some, None, refl, sym, ap, ◌∙◌, arith, length-append}
+use Rattle.std.proofs.Math.Seq.{take-add}
+use Rattle.std.proofs.lemmas.List.{drop-drop, get_or-drop, take-append-drop, take_more}
 use Rattle.std.proofs.lemmas.List.Elements.{filter_map-append}
 use Rattle.std.specs.List.{cons_option}
 use Rattle.dary_heap_pieces.specs.Links.{gone, link, word_of, IsLive, IsLinked}
@@ -16,14 +17,6 @@ next_at links place = (link links place).next
 abbrev pub position : List Link → ℕ → ℕ
 position links place = length (word_of (take place links))
 
-cons_option-append : (o : Option ℕ) (xs ys : List ℕ) → cons_option o (xs ++ ys) ≡ cons_option o xs ++ ys
-cons_option-append None xs ys = refl
-cons_option-append (Some x) xs ys = refl
-
-longer : (o : Option ℕ) (xs ys : List ℕ) → length xs ≤ length ys → length (cons_option o xs) ≤ length (cons_option o ys)
-longer None xs ys h = h
-longer (Some x) xs ys h = omega (arith, h)
-
 -- no piece stands before a place
 word_of-none : (links : List Link) (k : ℕ) → ((q : ℕ) → q < k → piece_at links q ≡ None) → word_of links ≡ word_of (drop k links)
 word_of-none links zero none = refl
@@ -34,13 +27,11 @@ word_of-none (l ∷ links) (suc k) none =
 
 -- none stands from one place up to another
 pub word_of-between : (links : List Link) (a b : ℕ) → a ≤ b → ((q : ℕ) → a ≤ q → q < b → piece_at links q ≡ None) → word_of (drop a links) ≡ word_of (drop b links)
-word_of-between [] zero zero up none = refl
-word_of-between [] zero (suc b) up none = refl
-word_of-between [] (suc a) zero up none = refl
-word_of-between [] (suc a) (suc b) up none = refl
-word_of-between (l ∷ links) zero b up none = word_of-none (l ∷ links) b (λ q h. none q (omega arith) h)
-word_of-between (l ∷ links) (suc a) zero up none = absurd (omega (arith, up))
-word_of-between (l ∷ links) (suc a) (suc b) up none = word_of-between links a b (omega (arith, up)) (λ q low high. none (suc q) (omega (arith, low)) (omega (arith, high)))
+word_of-between links a b up none =
+    let all : a + (b - a) ≡ b = omega (arith, up) in
+    word_of-none (drop a links) (b - a) (λ q h. ap (λ (l : Link). l.piece) (get_or-drop a links q gone) ∙ none (a + q) (omega arith) (omega (arith, h)))
+    ∙ ap word_of (drop-drop (b - a) a links)
+    ∙ ap (λ n. word_of (drop n links)) all
 
 -- a piece stands at a place
 pub word_of-at : (links : List Link) (place x : ℕ) → piece_at links place ≡ Some x → word_of (drop place links) ≡ x ∷ word_of (drop (suc place) links)
@@ -49,17 +40,17 @@ word_of-at (l ∷ links) zero x is = let here : l.piece ≡ Some x = is in rw he
 word_of-at (l ∷ links) (suc place) x is = word_of-at links place x is
 
 pub word_of-split : (links : List Link) (place x : ℕ) → piece_at links place ≡ Some x → word_of links ≡ word_of (take place links) ++ x ∷ word_of (drop (suc place) links)
-word_of-split [] place x is = absurd (cc)
-word_of-split (l ∷ links) zero x is = let here : l.piece ≡ Some x = is in rw here refl
-word_of-split (l ∷ links) (suc place) x is = ap (cons_option l.piece) (word_of-split links place x is) ∙ cons_option-append l.piece (word_of (take place links)) (x ∷ word_of (drop (suc place) links))
+word_of-split links place x is =
+    ap word_of (sym (take-append-drop place links))
+    ∙ filter_map-append (λ (l : Link). l.piece) (take place links) (drop place links)
+    ∙ ap (λ (ys : List ℕ). word_of (take place links) ++ ys) (word_of-at links place x is)
 
 pub position-later : (links : List Link) (p q : ℕ) → p ≤ q → position links p ≤ position links q
-position-later [] zero q h = omega arith
-position-later [] (suc p) zero h = absurd (omega (arith, h))
-position-later [] (suc p) (suc q) h = omega arith
-position-later (l ∷ links) zero q h = omega arith
-position-later (l ∷ links) (suc p) zero h = absurd (omega (arith, h))
-position-later (l ∷ links) (suc p) (suc q) h = longer l.piece (word_of (take p links)) (word_of (take q links)) (position-later links p q (omega (arith, h)))
+position-later links p q h =
+    let all : p + (q - p) ≡ q = omega (arith, h) in
+    let between = take (q - p) (drop p links) in
+    rw (← all, take-add p (q - p) links, filter_map-append (λ (l : Link). l.piece) (take p links) between)
+    (omega (arith, length-append (word_of (take p links)) (word_of between)))
 
 -- where a piece of the word stands
 pub record StandsAt (links : List Link) (i x : ℕ) : Type 0 where
