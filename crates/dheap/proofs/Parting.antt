@@ -1,12 +1,12 @@
 -- How a line is parted into words.
 use Rattle.std.proofs.Common.{◌≡◌, ◌<◌, ◌≤◌, ◌==◌, not, ℕ, suc, zero, Bool, true, false, cond, List, [], ◌∷◌, length, take, drop, refl, sym, ap, subst, ◌∙◌, ◌+◌, ◌-◌, arith}
 use Rattle.std.specs.List.{slice_split, filter, AllWithin, HoldsAt}
-use Rattle.std.proofs.lemmas.List.{length-drop, length-take-le}
+use Rattle.std.proofs.lemmas.List.{take_rest, length-drop, length-take-le}
 use Rattle.std.proofs.lemmas.List.Splits.{slice_split-cons_yes}
 use Rattle.std.proofs.Math.Bool.{true≢false}
 use Rattle.std.proofs.lemmas.Bool.{ne_eqb}
 use Rattle.dheap.specs.Script.{is_blank, words_of}
-use Rattle.dheap.proofs.Scripts.{cut, uncut, rest_whole}
+use Rattle.dheap.proofs.Scripts.{cut, uncut}
 
 abbrev is_word : List ℕ → Bool
 is_word word = not (length word == 0)
@@ -60,7 +60,7 @@ module _ (xs : List ℕ) (i : ℕ) (rest : List ℕ) (inside : i < length xs) (b
       let next : suc end ≡ end + 1 = omega arith in
       begins ∙ to_blank rest end some within before ends
       ∙ ap (λ n. take end rest ∷ words_of (drop n rest)) next
-      ∙ ap (λ l. take end rest ∷ words_of l) (sym (rest_whole rest (end + 1)))
+      ∙ ap (λ l. take end rest ∷ words_of l) (sym (take_rest rest (end + 1)))
 
   pub word_at_end : AllWithin (λ b. is_blank b ≡ false) rest 0 (length rest) → words_of xs ≡ rest ∷ []
   word_at_end before = begins ∙ to_end rest (omega (arith, inside, length-drop i xs, ap (λ l. length l) is)) before

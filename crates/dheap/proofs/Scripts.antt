@@ -1,9 +1,9 @@
 -- How a script is read, line by line.
-use Rattle.std.proofs.Common.{◌≡◌, ◌+◌, ◌-◌, ◌<◌, ◌≤◌, ◌==◌, ℕ, ℤ, suc, zero, Bool, true, false, List, [], ◌∷◌, ◌++◌, length, take, drop, Option, None, Some, IfSome, refl, sym, ap, ◌∙◌, append_assoc, append-nil, arith}
+use Rattle.std.proofs.Common.{◌≡◌, ◌+◌, ◌<◌, ◌≤◌, ◌==◌, ℕ, ℤ, suc, zero, Bool, true, false, List, [], ◌∷◌, ◌++◌, length, take, drop, Option, None, Some, IfSome, refl, sym, ap, ◌∙◌, append_assoc, append-nil, arith}
 use Rattle.std.specs.List.{slice_split, onto_first, AllWithin, HoldsAt}
-use Rattle.std.proofs.lemmas.List.Splits.{slice_split-cons_yes, slice_split-cons_no}
+use Rattle.std.proofs.lemmas.List.Splits.{slice_split-cons_yes, slice_split-cons_no, slice_split_none}
+use Rattle.std.proofs.lemmas.List.Elements.{All-from_all_within}
 use Rattle.std.proofs.Math.Bool.{true≢false}
-use Rattle.std.proofs.lemmas.List.{take_all, length-drop}
 use Rattle.dary_heap.specs.Machine.{Command}
 use Rattle.dheap.specs.Script.{Say, CarryOut, CarryOutLine, IsFirstBad, lines_of}
 use Rattle.dheap.specs.declared.serve.fault.Fault.{Fault}
@@ -20,8 +20,7 @@ module _ {X : Type 0} (p : X → Bool) where
       slice_split-cons_no p x xs (before 0 x (omega arith) (omega arith)) ∙ ap (onto_first x) later
 
   pub uncut : (xs : List X) → AllWithin (λ x. p x ≡ false) xs 0 (length xs) → slice_split p xs ≡ xs ∷ []
-  uncut [] before = refl
-  uncut (x ∷ xs) before = slice_split-cons_no p x xs (before 0 x (omega arith) (omega arith)) ∙ ap (onto_first x) (uncut xs (λ k d low high. before (suc k) d (omega arith) (omega (arith, high))))
+  uncut xs before = slice_split_none p xs (All-from_all_within (λ x. p x ≡ false) xs before)
 
 pub Say-append : (xs ys : List (List ℕ)) (ls ms : List Line) → Say xs ls → Say ys ms → Say (xs ++ ys) (ls ++ ms)
 Say-append [] ys [] ms h k = k
@@ -46,9 +45,6 @@ few_lines p (x ∷ xs) = by (p x) refl (few_lines p xs) where
   by : (b : Bool) → p x ≡ b → length (slice_split p xs) ≤ length xs + 1 → length (slice_split p (x ∷ xs)) ≤ length (x ∷ xs) + 1
   by true e few = omega (arith, ap (λ l. length l) (slice_split-cons_yes p x xs e), few)
   by false e few = omega (arith, ap (λ l. length l) (slice_split-cons_no p x xs e), few, same x (slice_split p xs))
-
-pub rest_whole : {X : Type 0} (xs : List X) (i : ℕ) → take (length xs - i) (drop i xs) ≡ drop i xs
-rest_whole xs i = take_all (length xs - i) (drop i xs) (omega (arith, length-drop i xs))
 
 -- that some line is the first bad one, without its fault
 pub first_bad : (fault : Fault) (known : Option (List ℕ)) → IfSome known (λ script. (number : ℕ) × (fault ≡ BadLine number) × IsFirstBad (lines_of script) number) → IfSome known (λ script. (number : ℕ) × IsFirstBad (lines_of script) number)

@@ -1,7 +1,6 @@
-use Rattle.std.proofs.Common.{◌≡◌, ◌+◌, List, Contains, length, sym, ap, ◌∙◌, subst, arith, refl}
-use Rattle.dary_heap_pieces.specs.Links.{IsLinked, IsOffered, candidate, link, standing, word_of}
-use Rattle.dary_heap_pieces.specs.Merging.{LeadsTo, table_of}
-use Rattle.dary_heap_pieces.specs.declared.links.Link.{Link}
+use Rattle.std.proofs.Common.{◌≡◌, length, sym, ap, ◌∙◌, arith, refl}
+use Rattle.dary_heap_pieces.specs.Links.{word_of}
+use Rattle.dary_heap_pieces.specs.Merging.{table_of}
 use Rattle.dary_heap_pieces.specs.declared.table.Merge.{Merge}
 use Rattle.dary_heap_pieces.proofs.Counting.{joined_counted}
 use Rattle.dary_heap_pieces.proofs.Steps.{IsOffered-stale, merged_at}

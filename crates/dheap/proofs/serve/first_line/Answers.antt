@@ -1,8 +1,9 @@
 use Rattle.std.proofs.Common.{rules, suc, drop, arith, ◌+◌, ◌∷◌, take, ◌==◌, ◌≡◌, true, false, sym, ap, ◌∙◌}
 use Rattle.std.proofs.lemmas.Iterator.{YieldsList-from_slice, IsFirst-from_position}
 use borrow.Author.Tests.{tests}
+use Rattle.std.proofs.lemmas.List.{take_rest}
 use Rattle.dheap.specs.Script.{lines_of}
-use Rattle.dheap.proofs.Scripts.{cut, uncut, rest_whole}
+use Rattle.dheap.proofs.Scripts.{cut, uncut}
 use Rattle.dheap.proofs.serve.first_line.Goals as goal
 
 pub returns-in-Some : goal.returns-in-Some
@@ -11,7 +12,7 @@ returns-in-Some c =
     let next : suc c.in-Some.place ≡ c.in-Some.place + 1 = omega arith in
     cut (λ b. b == 10) c.args.script.now c.in-Some.place first.0 first.2 first.1
     ∙ ap (λ n. take c.in-Some.place c.args.script.now ∷ lines_of (drop n c.args.script.now)) next
-    ∙ ap (λ rest. take c.in-Some.place c.args.script.now ∷ lines_of rest) (sym (rest_whole c.args.script.now (c.in-Some.place + 1)))
+    ∙ ap (λ rest. take c.in-Some.place c.args.script.now ∷ lines_of rest) (sym (take_rest c.args.script.now (c.in-Some.place + 1)))
 
 pub returns-in-None : goal.returns-in-None
 returns-in-None c =
