@@ -16,9 +16,6 @@ use Rattle.dary_heap.proofs.sift.Uncounted.{none_counted}
 use Rattle.dary_heap.proofs.shortest_path.search.Goals.{In_default-pop, In_err-relax}
 use Rattle.dary_heap.proofs.shortest_path.search.Goals as goal
 
-pub index_mut-requires : goal.index_mut-requires
-index_mut-requires c = omega (arith, c.requires.start, c.in-Ok.ensures.len, c.len.ensures)
-
 pub loop-cost-init : goal.loop-cost-init
 loop-cost-init c =
     let found : IsSearch 18446744073709551615 c.args.adj_list.now.items c.args.start c.args.goal (slice_set c.in-Ok.found.items c.args.start 0) c.push.new.self.items = search_begins c.len.result (lit< tt) (omega (arith, c.args.adj_list.now.ok.0)) (omega (arith, c.requires.start)) (c.in-Ok.ensures.items_if_clones_equal (λ y h. h)) c.requires.empty c.in-Ok-push.ensures.bag in
@@ -39,9 +36,6 @@ returns-then-position-goal-clause-uncritical c = found_uncritical c.loop-cost.in
 
 pub index-requires : goal.index-requires
 index-requires c = omega (arith, (taken c.loop-cost.invariant.search c.in-Some.ensures.bag).within)
-
-pub index-requires-in-Some : goal.index-requires-in-Some
-index-requires-in-Some c = omega (arith, (taken c.loop-cost.invariant.search c.in-Some.ensures.bag).within, c.loop-cost.invariant.search.long)
 
 pub loop-cost-preserved-then-cost-index : goal.loop-cost-preserved-then-cost-index
 loop-cost-preserved-then-cost-index c =
@@ -102,74 +96,8 @@ returns-clause-uncritical c = none_uncritical (ended (goal.at.returns-clause-unc
 all_once : {limit : ℕ} {g : Graph} {found : List ℕ} {waiting : List State} {examined : List Edge} → (nodes : List ℕ) × AreOnce limit found waiting nodes × (all_edges_of g nodes ≡ examined) → AreExaminedOnce g examined
 all_once once = all_examined _ once.0 _ once.1.distinct once.2
 
-pub returns-in_default-clause-least : goal.returns-in_default-clause-least
-returns-in_default-clause-least c = tt
-
-pub returns-in_default-clause-unreached : goal.returns-in_default-clause-unreached
-returns-in_default-clause-unreached c = tt
-
-pub returns-in_default-clause-uncritical : goal.returns-in_default-clause-uncritical
-returns-in_default-clause-uncritical c = tt
-
-pub returns-in_default-clause-too_large : goal.returns-in_default-clause-too_large
-returns-in_default-clause-too_large c = λ is. cc
-
-pub returns-in_default-clause-within : goal.returns-in_default-clause-within
-returns-in_default-clause-within c = omega (arith, ap length c.requires.unexamined)
-
-pub returns-in_default-clause-pushed : goal.returns-in_default-clause-pushed
-returns-in_default-clause-pushed c = omega (arith, c.requires.unpushed)
-
-pub returns-in_default-clause-few : goal.returns-in_default-clause-few
-returns-in_default-clause-few c = omega (arith, ap length c.requires.empty)
-
-pub returns-in_default-clause-counted : goal.returns-in_default-clause-counted
-returns-in_default-clause-counted c = none_counted _ _
-
-pub returns-in_default-push-clause-least : goal.returns-in_default-push-clause-least
-returns-in_default-push-clause-least c = tt
-
-pub returns-in_default-push-clause-unreached : goal.returns-in_default-push-clause-unreached
-returns-in_default-push-clause-unreached c = tt
-
-pub returns-in_default-push-clause-uncritical : goal.returns-in_default-push-clause-uncritical
-returns-in_default-push-clause-uncritical c = tt
-
-pub returns-in_default-push-clause-too_large : goal.returns-in_default-push-clause-too_large
-returns-in_default-push-clause-too_large c = λ is. cc
-
-pub returns-in_default-push-clause-within : goal.returns-in_default-push-clause-within
-returns-in_default-push-clause-within c = omega (arith, ap length (c.add_push.ensures.examined ∙ c.requires.unexamined))
-
-pub returns-in_default-push-clause-pushed : goal.returns-in_default-push-clause-pushed
-returns-in_default-push-clause-pushed c = omega (arith, c.add_push.ensures.pushes, c.requires.unpushed)
-
-pub returns-in_default-push-clause-few : goal.returns-in_default-push-clause-few
-returns-in_default-push-clause-few c = omega (arith, c.in_default-push.ensures.len, ap length c.requires.empty)
-
-pub returns-in_default-push-clause-counted : goal.returns-in_default-push-clause-counted
-returns-in_default-push-clause-counted c = rw c.in_default-push.ensures.unchanged (none_counted _ _)
-
-pub returns-then-position-goal-clause-unreached : goal.returns-then-position-goal-clause-unreached
-returns-then-position-goal-clause-unreached c = tt
-
-pub returns-then-position-goal-clause-too_large : goal.returns-then-position-goal-clause-too_large
-returns-then-position-goal-clause-too_large c = tt
-
 pub returns-then-position-goal-clause-once : goal.returns-then-position-goal-clause-once
 returns-then-position-goal-clause-once c = all_once c.loop-cost.invariant.once
-
-pub returns-then-position-goal-clause-pushed : goal.returns-then-position-goal-clause-pushed
-returns-then-position-goal-clause-pushed c = c.loop-cost.invariant.pushed
-
-pub returns-then-position-goal-clause-few : goal.returns-then-position-goal-clause-few
-returns-then-position-goal-clause-few c = omega (arith, c.loop-cost.invariant.charged.few, c.in-Some.ensures.len)
-
-pub loop-cost-smaller-then-cost-index : goal.loop-cost-smaller-then-cost-index
-loop-cost-smaller-then-cost-index c = omega (arith, length_permutation _ _ c.in-Some.ensures.bag)
-
-pub loop-cost-smaller : goal.loop-cost-smaller
-loop-cost-smaller c = omega (arith, c.in_ok-relax.ensures.ok.spent, length_permutation _ _ c.in-Some.ensures.bag)
 
 -- the first of a node's edges were examined where memory was missing, or a sum too large
 stopped : (c : In_err-relax) → AreExaminedOnce c.args.adj_list.now.items c.relax.new.work.examined
@@ -188,26 +116,11 @@ charged c =
     let so_far = c.in_err-relax.ensures.once in
     charged_long _ _ so_far.these so_far.examined (charged_push (charged_pop c.loop-cost.invariant.charged (omega (arith, length_permutation _ _ c.in-Some.ensures.bag)) c.in-Some.ensures.counted) so_far.pushes)
 
-pub returns-in_err-relax-clause-pushed : goal.returns-in_err-relax-clause-pushed
-returns-in_err-relax-clause-pushed c = omega (arith, c.loop-cost.invariant.pushed, c.in_err-relax.ensures.pushed)
-
 pub returns-in_err-relax-clause-few : goal.returns-in_err-relax-clause-few
 returns-in_err-relax-clause-few c = omega (arith, (charged (goal.at.returns-in_err-relax-clause-few c).In_err-relax).few)
 
-pub returns-clause-least : goal.returns-clause-least
-returns-clause-least c = tt
-
-pub returns-clause-too_large : goal.returns-clause-too_large
-returns-clause-too_large c = tt
-
 pub returns-clause-once : goal.returns-clause-once
 returns-clause-once c = all_once c.loop-cost.invariant.once
-
-pub returns-clause-pushed : goal.returns-clause-pushed
-returns-clause-pushed c = c.loop-cost.invariant.pushed
-
-pub returns-clause-few : goal.returns-clause-few
-returns-clause-few c = omega (arith, c.loop-cost.invariant.charged.few, c.in_default-pop.ensures.len)
 
 pub returns-in_default-clause-once : goal.returns-in_default-clause-once
 returns-in_default-clause-once c = none_examined c.args.adj_list.now.items c.args.work.now.examined c.requires.unexamined

@@ -2,9 +2,6 @@ use Rattle.std.proofs.Common.{◌+◌, subst, arith}
 use Rattle.dary_heap.specs.Choosing.{IsGreatestAt}
 use Rattle.dary_heap.proofs.sift.choice.greatest_of_four.Goals as goal
 
-pub overflow_add-first : goal.overflow_add-first
-overflow_add-first g c = record { fits = omega (arith, c.requires.within, c.args.hole.now.small, c.args.hole.now.ok.0) }
-
 pub returns-clause-chosen : goal.returns-clause-chosen
 returns-clause-chosen g c =
     let first = c.args.first in

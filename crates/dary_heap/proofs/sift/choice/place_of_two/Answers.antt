@@ -7,9 +7,6 @@ stepped : (t : Bool) (n : ℕ) → n + bool_byte t ≡ (if t then n + 1 else n)
 stepped true n = refl
 stepped false n = omega arith
 
-pub overflow_add-first : goal.overflow_add-first
-overflow_add-first g c = record { fits = omega (arith, c.requires.within, c.args.hole.now.small, c.args.hole.now.ok.0) }
-
 pub overflow_add-result : goal.overflow_add-result
 overflow_add-result g c = record { fits = at_most c.at_most.result }
   where
