@@ -3,3 +3,4 @@ pub mod HoleSeen
 pub mod Holes
 pub mod PlacesOwned
 pub mod SlotsLent
+pub mod Walks

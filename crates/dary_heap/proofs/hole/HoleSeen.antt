@@ -1,33 +1,8 @@
 -- What a `&` to an `Hole` shows, at any element type: its two words, and a `&` to each item. Assumes `Logic`.
-use mathlib.Core.Path.{◌≡◌, ◌∙◌}
+use Rattle.dary_heap.proofs.hole.Walks.{◌≡◌, ◌∙◌, Bool, true, false, List, [], ◌∷◌, ℕ, ◌+◌, ◌*◌, ◌<◌, ◌^◌, arith, length, length-set, length-replicate, get_or, get_or-replicate, replicate, Ura, Lft, Share, Fml, ftrue, fsep, flft, fhide, Val, Lfts, Logic, Goal, Seq, Item, ‵, ◌⊛◌, ◌$◌, move, drop, use1, split, fsplit, flt_l, RattleType, Slot, plain, RefOf, usize, hidden_shr, RawPtr, block_ptr, in_a_block, Struct, shape, lent_out, slots_lent, El, R, el_x, one_below, times_below, hd, any-default, none_at_null, value_lent, sz}
 use mathlib.Core.Logic.{◌≢◌}
-use mathlib.Core.Bool.{Bool, true, false}
-use mathlib.Core.List.{List, [], ◌∷◌}
-use Prim.Native.Nat.{ℕ, ◌+◌, ◌*◌, ◌<◌, ◌^◌}
-use native.Mathlib.Omega.{arith}
-use lib.ListN.{length, length-set, length-replicate, get_or, get_or-replicate, replicate}
-use seplogic.Ra.Ura.{Ura}
-use base.Fml.{Lft, Share, Fml, ftrue, fsep, flft, fhide}
-use mir.Val.{Val}
-use contract.Lifetimes.{Lfts}
-use types.Logic.{Logic}
-use types.Kit.{Goal, Seq, Item, ‵, ◌⊛◌, ◌$◌, move, drop, use1, split, fsplit, flt_l}
-use denote.RattleType.{RattleType}
-use denote.Signature.{Slot, plain}
-use denote.Builtin.{RefOf, usize}
-use denote.Memory.{hidden_shr}
 use denote.Opens.{hide, unhide}
-use denote.RawPtr.{RawPtr, block_ptr, in_a_block}
-use denote.Struct.Struct.{Struct}
-use denote.Struct.Owning.{shape}
-use denote.Struct.Lending.{lent_out}
 use Rattle.std.proofs.lemmas.List.{get_or-set_other}
-use Rattle.core.specs.Mem.Slots.Ownership.{slots_lent}
-use Rattle.core.proofs.mem.Param.{El, R, el_x}
-use Rattle.core.proofs.ptr.Rows.{one_below, times_below}
-use Rattle.core.proofs.slice.Lists.{hd, any-default}
-use Rattle.core.proofs.slots.Lent.{none_at_null, value_lent}
-use Rattle.core.proofs.slots.Places.{sz}
 use Rattle.dary_heap.specs.Places.{filled_but}
 use Rattle.dary_heap.specs.contracts.hole.places.Hole as C
 use Rattle.dary_heap.specs.declared.hole.places.Hole.{Hole}

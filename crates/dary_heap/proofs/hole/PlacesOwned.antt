@@ -5,42 +5,13 @@
 --     row_out, row_found, row_in     a row is taken from its two words, at a block or at any pointer, and put back
 --     hollow_opened, hollow_closed     a `&mut Hole` is opened and closed
 --     lent_as_row, row_back     a `&mut [T]` is opened as a `Places`, and closed at the one that comes back
-use Prim.Native.Nat.{ℕ, ◌*◌, ◌<◌, ◌^◌}
-use mathlib.Core.Bool.{Bool, true, false}
-use mathlib.Core.List.{List, [], ◌∷◌}
-use mathlib.Core.Path.{◌≡◌, refl, sym, ap, subst, ◌∙◌}
-use native.Mathlib.Omega.{arith}
-use lib.ListN.{length, get_or, set, length-set, length-replicate, get_or-replicate}
+use Rattle.dary_heap.proofs.hole.Walks.{ℕ, ◌*◌, ◌<◌, ◌^◌, Bool, true, false, List, [], ◌∷◌, ◌≡◌, refl, sym, ap, subst, ◌∙◌, arith, length, get_or, set, length-set, length-replicate, get_or-replicate, Ura, Fml, Lft, GName, Share, fsep, flft, fobs, fauth, fbor, fobor, full_share, ent, never, w64, Val, WT, vint, vstruct, vcons, vnil, Goal, Soaks, Step, step, Seq, Item, ‵, ◌$◌, ◌∵◌, !, qed, drop, move, use1, fsplit, fjoin, flt_l, flt_i, rewrite, done, Logic, sem, Is, Tells, shows, cell_at, mem, uint_vals, uint_Tells, RattleType, Ptr, block_ptr, null_ptr, ptr_val, in_a_block, rawptr_vals, rawptr_Tells, pure_i, Room, coded_holeys, heres, facts, opens, closes, RawPtr-laws, usize-laws, shape, Struct, Struct-Tells, ◌≢◌, El, R, el_x, times_below, one_below, sz, of_row, to_row, owned, slots}
 use lib.Seq.{set-set, set_comm, set-get_or, get_or-set_other}
-use seplogic.Ra.Ura.{Ura}
-use base.Fml.{Fml, Lft, GName, Share, fsep, flft, fobs, fauth, fbor, fobor}
-use base.Fraction.{full_share}
-use base.Logic.{ent, never}
 use base.Stored.{Gv}
-use mir.Syntax.{w64}
-use mir.Val.{Val, WT, vint, vstruct, vcons, vnil}
-use types.Kit.{Goal, Soaks, Step, step, Seq, Item, ‵, ◌$◌, ◌∵◌, !, qed, drop, move, use1, fsplit, fjoin, flt_l, flt_i, rewrite, done}
-use types.Logic.{Logic, sem}
 use types.SemTy.{Body}
 use denote.Index.{row, opens_slice, closes_slice}
-use denote.Laws.{Is, Tells, shows}
 use denote.Lend.{Held}
-use denote.Memory.{cell_at, mem}
-use denote.Plain.{uint_vals, uint_Tells}
-use denote.RattleType.{RattleType}
-use denote.RawPtr.{Ptr, block_ptr, null_ptr, ptr_val, in_a_block, rawptr_vals, rawptr_Tells}
-use denote.Shadow.{pure_i}
-use denote.Slice.{Room, coded_holeys, heres}
-use denote.Steps.{facts, opens, closes}
-use denote.Struct.Laws.{RawPtr-laws, usize-laws}
-use denote.Struct.Owning.{shape}
 use denote.Struct.OwningLaws.{Tells-lowered}
-use denote.Struct.Struct.{Struct, Struct-Tells}
-use Rattle.std.specs.Prelude.{◌≢◌}
-use Rattle.core.proofs.mem.Param.{El, R, el_x}
-use Rattle.core.proofs.ptr.Rows.{times_below, one_below}
-use Rattle.core.proofs.slots.Places.{sz, of_row, to_row}
-use Rattle.core.specs.Mem.Slots.Ownership.{owned, slots}
 use Rattle.dary_heap.specs.Hole.{IsSameSlice}
 use Rattle.dary_heap.specs.Places.{all_filled, filled_but}
 use Rattle.dary_heap.specs.contracts.hole.places.Hole as O

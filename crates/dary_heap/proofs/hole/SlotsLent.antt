@@ -1,19 +1,9 @@
 -- What is lent of a row of places: for each item that lies there, what a `&` to it holds. Assumes `Logic`.
-use mathlib.Core.Bool.{Bool, true, false}
-use mathlib.Core.List.{List, [], ◌∷◌}
-use Prim.Native.Nat.{ℕ, ◌*◌, ◌^◌}
-use seplogic.Ra.Ura.{Ura}
-use base.Fml.{Lft, Fml, Incl, ftrue, fsep, flt}
-use types.Logic.{Logic}
-use denote.RattleType.{RattleType}
-use denote.RawPtr.{Ptr, block_ptr, null_ptr, in_block, ◌+ₚ◌}
-use denote.Param.Laws.{Laws}
+use Rattle.dary_heap.proofs.hole.Walks.{Bool, true, false, List, [], ◌∷◌, ℕ, ◌*◌, ◌^◌, Ura, Lft, Fml, Incl, ftrue, fsep, flt, Logic, RattleType, Ptr, block_ptr, null_ptr, in_block, ◌+ₚ◌, Laws, Lends, Lends-both, Lends-false, Lends-lies, Lends-nothing, Lends-said, lent_at_shr_laws, bytes_of, slot, slots, owned, slot_lent, slots_lent, lent}
 use denote.Shares.{Shares-less}
 use denote.Sharing.{ShrLaws, nothing, said, beside}
 use denote.SharingLaws.{nothing_shr_laws, said_shr_laws, beside_shr_laws}
 use denote.Pure.{Pure}
-use denote.Struct.Lending.{Lends, Lends-both, Lends-false, Lends-lies, Lends-nothing, Lends-said, lent_at_shr_laws}
-use Rattle.core.specs.Mem.Slots.Ownership.{bytes_of, slot, slots, owned, slot_lent, slots_lent, lent}
 
 -- a borrow of P becomes s, at lifetimes within l
 pub record Lendable (l : Lft) (P : Fml) (s : Lft → Fml) : Type 2 where

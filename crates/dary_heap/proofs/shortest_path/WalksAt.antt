@@ -1,20 +1,5 @@
 -- A walk at machine values that are spelled out, where a value of a type parameter is one machine value. Assumes `Logic`.
-use mathlib.Core.List.{List, [], ◌∷◌}
-use mathlib.Core.Path.{◌≡◌, refl}
-use seplogic.Ra.Ura.{Ura}
-use base.Logic.{ent}
-use mir.Val.{Val}
-use contract.Monad.{Fun}
-use types.Logic.{Logic}
-use types.Kit.{Goal, Seq, Item, ‵}
-use denote.Laws.{Is, shows}
-use denote.Param.{layout}
-use denote.Param.Steps.{one_value}
-use denote.Steps.{peeks}
-use denote.Triple.Clauses.{Clauses, Ended}
-use denote.Triple.Entry.{Vals}
-use denote.Triple.Walked.{Stays, walk_of}
-use Rattle.core.proofs.mem.Param.{El, R, el_x, Good, lawful}
+use Rattle.dary_heap.proofs.hole.Walks.{List, [], ◌∷◌, ◌≡◌, refl, Ura, ent, Val, Fun, Logic, Goal, Seq, Item, ‵, Is, shows, layout, one_value, peeks, Clauses, Ended, Vals, Stays, walk_of, El, R, el_x, Good, lawful}
 
 module _ {M : Type 1} {𝓤 : Ura M} (𝓛 : Logic 𝓤) (T : Ended) (hs : Stays T.signature.params T.kept) (c : Clauses 𝓤 T) (run : Fun 𝓤) where
   abbrev pub at_values : (y : (walk_of 𝓛 T hs c).Ghost) → Vals T.signature y.0.0 → (walk_of 𝓛 T hs c).Ghost

@@ -1,48 +1,11 @@
 -- `with_places` opens the slice, hands its places and the reference to `f`, and closes the slice at the places that come back. Assumes `Logic`.
-use Prim.Native.Nat.{ℕ}
-use mathlib.Core.List.{List, [], ◌∷◌, ◌++◌}
-use mathlib.Core.Path.{◌≡◌, refl, sym, subst, ap, ◌∙◌}
-use lib.ListN.{length}
-use seplogic.Ra.Ura.{Ura}
-use base.Fml.{ftrue, flft}
-use base.Logic.{emp, id⊢}
-use mir.MapTy.{inst_fn}
-use mir.Syntax.{Args, Dict, a_type, dnil, dcons, method, no_args}
-use mir.Val.{Val, vstruct, of_list}
-use prog.Model.{Model}
-use prog.Wp.{WpFn}
-use contract.BorrowLft.{◌⊑◌}
-use contract.Lifetimes.{Lfts}
-use contract.Monad.{fact, fact_i}
-use contract.Running.{Running, MachineTables, tables}
-use types.Logic.{Logic}
-use types.Kit.{‵, raw, ◌⊛◌, some, later, ◌$◌, ◌∵◌, !, qed, move, keep, use0, use1, split, split3, group, pick, fsplit, fsplit3, fpick, feq_l, suffices, await, done}
-use types.Part.{whole, sub, agg}
-use types.Run.{stop, fld, hop, from, addr, no_more, and_then, of_opd, returns, enter}
-use types.ByLocal.{alloc_all, pass_all, free_all, look_at, look_in_at, get, get_in, through, sets, lands_as}
-use denote.Exit.{no}
-use denote.Laws.{Are, Ises}
-use denote.Param.{layout, bounded, param}
+use Rattle.dary_heap.proofs.hole.Walks.{ℕ, List, [], ◌∷◌, ◌++◌, ◌≡◌, refl, sym, subst, ap, ◌∙◌, length, Ura, ftrue, flft, emp, id⊢, inst_fn, Args, Dict, a_type, dnil, dcons, method, no_args, Val, vstruct, of_list, Model, WpFn, ◌⊑◌, Lfts, fact, fact_i, Running, MachineTables, tables, Logic, ‵, raw, ◌⊛◌, some, later, ◌$◌, ◌∵◌, !, qed, move, keep, use0, use1, split, split3, group, pick, fsplit, fsplit3, fpick, feq_l, suffices, await, done, whole, sub, agg, stop, fld, hop, from, addr, no_more, and_then, of_opd, returns, enter, alloc_all, pass_all, free_all, look_at, look_in_at, get, get_in, through, sets, lands_as, no, Are, Ises, layout, bounded, param, one_value, RattleType, mirs, owns, as_fields, block_ptr, MutBor, mut_vals, pure_i, plain, types_at, Room, slice_val, mut_slice_vals, mut_slice_at, heard, nothing, only, Tuple, Clauses, Ended, Lasts, lasts, Vals, Stays, stay_slice, stay_dropped, gave_ref, Goes-slice, Goes-gave_ref, Goes-dropped, walk_of, ends_at, says, proved_at, El, R, el_x, Good, lawful}
 use denote.Param.Call as call
-use denote.Param.Steps.{one_value}
-use denote.RattleType.{RattleType, mirs, owns}
-use denote.Struct.Struct.{as_fields}
-use denote.RawPtr.{block_ptr}
-use denote.Ref.{MutBor, mut_vals}
-use denote.Shadow.{pure_i}
-use denote.Signature.{plain, types_at}
-use denote.Slice.{Room, slice_val, mut_slice_vals, mut_slice_at}
-use denote.Steps.{heard, nothing, only}
-use denote.Struct.Tuple.{Tuple}
 use denote.Triple.Call.{calls_at}
-use denote.Triple.Clauses.{Clauses, Ended, Lasts, lasts}
-use denote.Triple.Entry.{Vals, Args as Passed}
+use denote.Triple.Entry.{Args as Passed}
 use denote.Triple.Spec.{triple_of}
 use denote.Triple.Statement.{Triple, Contract}
 use denote.Triple.Table.{framed}
-use denote.Triple.Walked.{Stays, stay_slice, stay_dropped, gave_ref, Goes-slice, Goes-gave_ref, Goes-dropped, walk_of, ends_at, says}
-use Rattle.std.proofs.raw_atomic.Walks.{proved_at}
-use Rattle.core.proofs.mem.Param.{El, R, el_x, Good, lawful}
 use Rattle.dary_heap.specs.Hole.{IsSameSlice}
 use Rattle.dary_heap.specs.declared.hole.places.Places.{Places}
 use Rattle.dary_heap.specs.contracts.hole.with_places as f

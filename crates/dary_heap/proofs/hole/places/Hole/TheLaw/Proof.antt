@@ -1,13 +1,7 @@
 -- A `&` to an `Hole` is made of a borrow of it. It lends each item that lies at a place. Assumes `Logic`.
-use mathlib.Core.List.{[], ◌++◌}
-use base.Fml.{Lft, Incl, Incl-trans}
-use contract.BorrowLft.{meet_⊑_left}
-use denote.RattleType.{RattleType}
-use denote.Param.Laws.{Laws}
+use Rattle.dary_heap.proofs.hole.Walks.{[], ◌++◌, Lft, Incl, Incl-trans, meet_⊑_left, RattleType, Laws, RawPtr-copy, usize-copy, of_Lends}
 use denote.Param.Shared.{copy_shared}
 use denote.Struct.Field.{RawPtr-field, usize-field}
-use denote.Struct.Laws.{RawPtr-copy, usize-copy}
-use denote.Struct.Lending.{of_Lends}
 use Rattle.dary_heap.specs.Places.{filled_but}
 use Rattle.dary_heap.specs.contracts.hole.places.Hole as C
 use Rattle.dary_heap.specs.declared.hole.places.Hole.{Hole}

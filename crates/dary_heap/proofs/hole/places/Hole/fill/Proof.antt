@@ -1,42 +1,5 @@
 -- `fill` writes the item into the empty place, at any item type. Assumes `Logic`.
-use Prim.Native.Nat.{ℕ, ◌+◌, ◌*◌, ◌<◌, ◌^◌}
-use mathlib.Core.Bool.{Bool, true}
-use mathlib.Core.List.{List, [], ◌∷◌, ◌++◌}
-use mathlib.Core.Path.{◌≡◌, refl, sym, subst, ◌∙◌}
-use native.Mathlib.Omega.{arith}
-use lib.ListN.{length, set, length-set}
-use seplogic.Ra.Ura.{Ura}
-use base.Fml.{ftrue, froom, flft}
-use mir.MapTy.{inst_fn}
-use mir.Syntax.{Fn, w64}
-use mir.Val.{Val, vint}
-use prog.Model.{Model}
-use prog.Wp.{WpFn}
-use contract.BorrowLft.{◌⊑◌}
-use contract.Monad.{Fun, fact}
-use contract.Running.{Running, tables}
-use types.Logic.{Logic}
-use types.Kit.{‵, raw, ◌⊛◌, prop, at_ret, ◌$◌, ◌∵◌, !, qed, move, keep, drop, use1, use3, split, fsplit, fsplit3, rewrite, group, regoal, suffices, done}
-use types.Part.{whole, sub, agg}
-use types.Run.{init, stop, fld, size_lit, of_opd, bin, and_then, no_more, assigns, first, blocks, exec, returns, enter}
-use types.ByLocal.{alloc_all, pass_all, free_all, look_at, get, get_in, through, sets, sets_last, env}
-use denote.Builtin.{usize}
-use denote.Exit.{yes, no}
-use denote.Param.{layout}
-use denote.Param.Steps.{one_value}
-use denote.Plain.{uint_vals}
-use denote.RattleType.{owns}
-use denote.RawPtr.{block_ptr}
-use denote.Signature.{plain, types_at}
-use denote.Steps.{heard, nothing}
-use denote.Triple.Clauses.{Clauses, Ended}
-use denote.Triple.Walked.{Stays, stay_dropped, Goes-dropped, walk_of, ends_at}
-use Rattle.std.proofs.raw_atomic.Walks.{proved_at}
-use Rattle.core.proofs.mem.Facts.{says_two}
-use Rattle.core.proofs.mem.Param.{El, R, args, el_x, elτ, Good, lawful}
-use Rattle.core.proofs.slots.Bodies.{after}
-use Rattle.core.proofs.slots.Places.{sz, besides, room_out, value_in}
-use Rattle.core.specs.Mem.Slots.Ownership.{slots}
+use Rattle.dary_heap.proofs.hole.Walks.{ℕ, ◌+◌, ◌*◌, ◌<◌, ◌^◌, Bool, true, List, [], ◌∷◌, ◌++◌, ◌≡◌, refl, sym, subst, ◌∙◌, arith, length, set, length-set, Ura, ftrue, froom, flft, inst_fn, Fn, w64, Val, vint, Model, WpFn, ◌⊑◌, Fun, fact, Running, tables, Logic, ‵, raw, ◌⊛◌, prop, at_ret, ◌$◌, ◌∵◌, !, qed, move, keep, drop, use1, use3, split, fsplit, fsplit3, rewrite, group, regoal, suffices, done, whole, sub, agg, init, stop, fld, size_lit, of_opd, bin, and_then, no_more, assigns, first, blocks, exec, returns, enter, alloc_all, pass_all, free_all, look_at, get, get_in, through, sets, sets_last, env, usize, yes, no, layout, one_value, uint_vals, owns, block_ptr, plain, types_at, heard, nothing, Clauses, Ended, Stays, stay_dropped, Goes-dropped, walk_of, ends_at, proved_at, says_two, El, R, args, el_x, elτ, Good, lawful, after, sz, besides, room_out, value_in, slots}
 use Rattle.dary_heap.specs.Places.{all_filled, filled_but}
 use Rattle.dary_heap.specs.declared.hole.places.Hole.{Hole}
 use Rattle.dary_heap.specs.declared.hole.places.Places.{Places}

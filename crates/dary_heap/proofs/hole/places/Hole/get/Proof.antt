@@ -1,32 +1,6 @@
 -- `Hole::get` makes a `&` to the item at a place out of the pointer behind its own `&`.
-use mathlib.Core.Path.{refl}
+use Rattle.dary_heap.proofs.hole.Walks.{refl, List, [], ◌∷◌, ◌+◌, ◌*◌, ◌<◌, length, Fn, w64, named, inst_fn, Val, vptr, ftrue, flft, ◌⊑◌, fact, tables, usize, yes, uint_vals, uint_Tells, owns, shr_vals, shr_Tells, plain, types_at, nothing, heard, Stays, stay_dropped, Goes-dropped, says, walk_of, ends_at, ‵, raw, ◌⊛◌, at_ret, ◌$◌, ◌∵◌, !, qed, move, drop, split, join, fjoin, feq_i, suffices, done, enter, of_opd, bin, size_lit, addr, load, look, fld, stop, first, blocks, exec, returns, alloc_all, pass_all, free_all, look_at, get, through, sets, sets_last, env, proved, El, args, after, pointer_in, pointer_out, sz}
 use mathlib.Core.Logic.{◌≢◌}
-use mathlib.Core.List.{List, [], ◌∷◌}
-use Prim.Native.Nat.{◌+◌, ◌*◌, ◌<◌}
-use lib.ListN.{length}
-use mir.Syntax.{Fn, w64, named}
-use mir.MapTy.{inst_fn}
-use mir.Val.{Val, vptr}
-use base.Fml.{ftrue, flft}
-use contract.BorrowLft.{◌⊑◌}
-use contract.Monad.{fact}
-use contract.Running.{tables}
-use denote.Builtin.{usize}
-use denote.Exit.{yes}
-use denote.Plain.{uint_vals, uint_Tells}
-use denote.RattleType.{owns}
-use denote.Ref.{shr_vals, shr_Tells}
-use denote.Signature.{plain, types_at}
-use denote.Steps.{nothing, heard}
-use denote.Triple.Walked.{Stays, stay_dropped, Goes-dropped, says, walk_of, ends_at}
-use types.Kit.{‵, raw, ◌⊛◌, at_ret, ◌$◌, ◌∵◌, !, qed, move, drop, split, join, fjoin, feq_i, suffices, done}
-use types.Run.{enter, of_opd, bin, size_lit, addr, load, look, fld, stop, first, blocks, exec, returns}
-use types.ByLocal.{alloc_all, pass_all, free_all, look_at, get, through, sets, sets_last, env}
-use Rattle.std.proofs.raw_atomic.Walks.{proved}
-use Rattle.core.proofs.mem.Param.{El, args}
-use Rattle.core.proofs.slots.Bodies.{after}
-use Rattle.core.proofs.slots.Lent.{pointer_in, pointer_out}
-use Rattle.core.proofs.slots.Places.{sz}
 use Rattle.dary_heap.proofs.hole.HoleSeen.{others, by_ref, self_shown, item_shown}
 use Rattle.dary_heap.specs.contracts.hole.places.Hole.get as F
 use Rattle.dary_heap.proofs.hole.places.Hole.get.Statement.{statement}

@@ -1,40 +1,5 @@
 -- `move_to` reads an item out of its place and writes it into the empty one, at any item type. Assumes `Logic`.
-use Prim.Native.Nat.{ℕ, ◌+◌, ◌*◌, ◌<◌, ◌^◌}
-use mathlib.Core.Bool.{Bool, true, false}
-use mathlib.Core.List.{List, [], ◌∷◌}
-use mathlib.Core.Path.{◌≡◌, refl, sym, ap, ◌∙◌}
-use native.Mathlib.Omega.{arith}
-use lib.ListN.{length, get_or, set, length-set}
-use base.Fml.{ftrue, fat, froom, flft}
-use base.Fraction.{full_share}
-use mir.MapTy.{inst_fn}
-use mir.Syntax.{Fn, w64, named}
-use mir.Val.{Val, vunit, vptr}
-use contract.BorrowLft.{◌⊑◌}
-use contract.Monad.{fact}
-use contract.Running.{tables}
-use types.Kit.{‵, raw, ◌⊛◌, some, given, at_ret, ◌$◌, ◌∵◌, !, qed, move, keep, drop, use1, use2, use3, split, split3, fsplit, fsplit3, feq_i, rewrite, group, pick, learn, suffices, done}
-use types.Part.{whole, sub, look_in}
-use types.Run.{look, init, forget, stop, fld, load, size_lit, unit_lit, of_opd, bin, assigns_last, first, blocks, exec, returns, enter}
-use types.ByLocal.{alloc_all, pass_all, free_all, look_at, get, through, sets, env}
-use denote.Builtin.{usize}
-use denote.Exit.{yes}
-use denote.Plain.{uint_vals, uint_Tells}
-use denote.RattleType.{owns}
-use denote.RawPtr.{block_ptr}
-use denote.Ref.{mut_vals, mut_Tells}
-use denote.Signature.{plain, types_at}
-use denote.Steps.{heard, nothing}
-use denote.Triple.Clauses.{Ended}
-use denote.Triple.Walked.{Stays, stay_ref, stay_dropped, Goes-ref, Goes-dropped, walk_of, ends_at}
-use Rattle.std.specs.Prelude.{◌≢◌}
-use Rattle.std.proofs.raw_atomic.Walks.{proved}
-use Rattle.core.proofs.mem.Facts.{says_three}
-use Rattle.core.proofs.mem.Param.{El, R, args, el_x, elτ, Good}
-use Rattle.core.proofs.slice.Lists.{hd, any-default}
-use Rattle.core.proofs.slots.Bodies.{after}
-use Rattle.core.proofs.slots.Places.{sz, besides, value_out, value_in, room_out, room_in}
-use Rattle.core.specs.Mem.Slots.Ownership.{slots}
+use Rattle.dary_heap.proofs.hole.Walks.{ℕ, ◌+◌, ◌*◌, ◌<◌, ◌^◌, Bool, true, false, List, [], ◌∷◌, ◌≡◌, refl, sym, ap, ◌∙◌, arith, length, get_or, set, length-set, ftrue, fat, froom, flft, full_share, inst_fn, Fn, w64, named, Val, vunit, vptr, ◌⊑◌, fact, tables, ‵, raw, ◌⊛◌, some, given, at_ret, ◌$◌, ◌∵◌, !, qed, move, keep, drop, use1, use2, use3, split, split3, fsplit, fsplit3, feq_i, rewrite, group, pick, learn, suffices, done, whole, sub, look_in, look, init, forget, stop, fld, load, size_lit, unit_lit, of_opd, bin, assigns_last, first, blocks, exec, returns, enter, alloc_all, pass_all, free_all, look_at, get, through, sets, env, usize, yes, uint_vals, uint_Tells, owns, block_ptr, mut_vals, mut_Tells, plain, types_at, heard, nothing, Ended, Stays, stay_ref, stay_dropped, Goes-ref, Goes-dropped, walk_of, ends_at, ◌≢◌, proved, says_three, El, R, args, el_x, elτ, Good, hd, any-default, after, sz, besides, value_out, value_in, room_out, room_in, slots}
 use Rattle.dary_heap.specs.Places.{filled_but}
 use Rattle.dary_heap.specs.declared.hole.places.Hole.{Hole}
 use Rattle.dary_heap.specs.contracts.hole.places.Hole.move_to as f

@@ -1,41 +1,6 @@
 -- `take` reads an item out of its place, at any item type. Assumes `Logic`.
-use Prim.Native.Nat.{ℕ, ◌+◌, ◌*◌, ◌<◌, ◌^◌}
-use mathlib.Core.Bool.{true, false}
-use mathlib.Core.List.{List, [], ◌∷◌, ◌++◌}
-use mathlib.Core.Path.{◌≡◌, refl, sym}
-use native.Mathlib.Omega.{arith}
-use lib.ListN.{length, get_or, length-replicate, get_or-replicate}
-use base.Fml.{ftrue, fat, flft}
-use base.Fraction.{full_share}
-use mir.MapTy.{inst_fn}
-use mir.Syntax.{Fn, w64}
-use mir.Val.{Val, vint, vstruct, vcons, vnil}
-use prog.Wp.{WpFn}
-use contract.BorrowLft.{◌⊑◌}
-use contract.Monad.{fact}
-use contract.Running.{tables}
-use types.Kit.{‵, raw, ◌⊛◌, some, given, prop, at_ret, ◌$◌, ◌∵◌, !, qed, move, keep, drop, use1, use2, split, split3, fsplit, fjoin, fjoin3, fpack, feq_i, group, pick, learn, regoal, suffices, done}
-use types.Part.{whole, sub, agg}
-use types.Run.{look, forget, stop, fld, load, size_lit, of_opd, bin, and_then, no_more, first, blocks, exec, returns, enter}
-use types.ByLocal.{alloc_all, pass_all, free_all, look_at, get, get_in, through, sets, sets_last, env}
-use denote.Builtin.{usize}
-use denote.Exit.{yes, no}
-use denote.Plain.{uint_vals, uint_Tells}
-use denote.RattleType.{Valss, mirs, owns}
-use denote.RawPtr.{block_ptr}
-use denote.Signature.{plain, types_at}
-use denote.Steps.{heard, nothing}
+use Rattle.dary_heap.proofs.hole.Walks.{ℕ, ◌+◌, ◌*◌, ◌<◌, ◌^◌, true, false, List, [], ◌∷◌, ◌++◌, ◌≡◌, refl, sym, arith, length, get_or, length-replicate, get_or-replicate, ftrue, fat, flft, full_share, inst_fn, Fn, w64, Val, vint, vstruct, vcons, vnil, WpFn, ◌⊑◌, fact, tables, ‵, raw, ◌⊛◌, some, given, prop, at_ret, ◌$◌, ◌∵◌, !, qed, move, keep, drop, use1, use2, split, split3, fsplit, fjoin, fjoin3, fpack, feq_i, group, pick, learn, regoal, suffices, done, whole, sub, agg, look, forget, stop, fld, load, size_lit, of_opd, bin, and_then, no_more, first, blocks, exec, returns, enter, alloc_all, pass_all, free_all, look_at, get, get_in, through, sets, sets_last, env, usize, yes, no, uint_vals, uint_Tells, Valss, mirs, owns, block_ptr, plain, types_at, heard, nothing, within, as_fields, tuple_type, Ended, Stays, stay_dropped, Goes-dropped, walk_of, ends_at, proved, El, R, args, el_x, elτ, Good, hd, any-default, after, says_four, sz, besides, value_out, room_in, slots}
 use denote.Struct.Declared.{shape}
-use denote.Struct.Struct.{within, as_fields}
-use denote.Struct.Tuple.{tuple_type}
-use denote.Triple.Clauses.{Ended}
-use denote.Triple.Walked.{Stays, stay_dropped, Goes-dropped, walk_of, ends_at}
-use Rattle.std.proofs.raw_atomic.Walks.{proved}
-use Rattle.core.proofs.mem.Param.{El, R, args, el_x, elτ, Good}
-use Rattle.core.proofs.slice.Lists.{hd, any-default}
-use Rattle.core.proofs.slots.Bodies.{after, says_four}
-use Rattle.core.proofs.slots.Places.{sz, besides, value_out, room_in}
-use Rattle.core.specs.Mem.Slots.Ownership.{slots}
 use Rattle.dary_heap.specs.Places.{all_filled, filled_but}
 use Rattle.dary_heap.specs.declared.hole.places.Hole.{Hole}
 use Rattle.dary_heap.specs.declared.hole.places.Places.{Places}

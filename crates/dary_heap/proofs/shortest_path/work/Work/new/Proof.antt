@@ -1,17 +1,5 @@
 -- `new` makes the empty struct, and picks the empty list and 0 for its ghost fields.
-use Rattle.std.proofs.Common.{[], ◌∷◌, refl}
-use Rattle.std.proofs.raw_atomic.Walks.{proved}
-use mir.Val.{Val, vstruct, vnil}
-use base.Fml.{ftrue}
-use types.Kit.{‵, raw, ◌$◌, ◌∵◌, !, qed, keep, join, suffices, done}
-use types.Part.{agg}
-use types.Run.{no_more, returns, enter}
-use types.ByLocal.{alloc_all, pass_all, free_all, look_at, sets}
-use denote.Shadow.{pure_i}
-use denote.Steps.{nothing}
-use denote.Triple.Entry.{on_entry}
-use denote.Triple.Walked.{ends_at}
-use Rattle.core.proofs.mem.Facts.{says_two}
+use Rattle.dary_heap.proofs.hole.Walks.{[], ◌∷◌, refl, proved, Val, vstruct, vnil, ftrue, ‵, raw, ◌$◌, ◌∵◌, !, qed, keep, join, suffices, done, agg, no_more, returns, enter, alloc_all, pass_all, free_all, look_at, sets, pure_i, nothing, on_entry, ends_at, says_two}
 use Rattle.dary_heap.specs.declared.shortest_path.work.Work.{Work}
 use Rattle.dary_heap.specs.contracts.shortest_path.work.Work.{the_row as R}
 use Rattle.dary_heap.specs.contracts.shortest_path.work.Work.new as f

@@ -1,17 +1,5 @@
 -- No code runs: the borrow opens and closes again, with another ghost value.
-use Rattle.std.proofs.Common.{◌+◌, [], ◌∷◌, refl}
-use Rattle.std.proofs.raw_atomic.Walks.{proved}
-use base.Logic.{id⊢}
-use base.Fml.{ftrue, flft}
-use mir.Syntax.{named}
-use mir.Val.{vunit}
-use types.Kit.{‵, ◌⊛◌, ◌$◌, ◌∵◌, !, qed, move, keep, use1, split, join, fsplit3, feq_i, suffices, frame, group, done}
-use types.Run.{enter, of_opd, unit_lit, returns}
-use types.ByLocal.{alloc_all, pass_all, free_all, look_at, sets}
-use denote.Ref.{MutRef, mut_vals, mut_Tells}
-use denote.Signature.{plain}
-use denote.Steps.{nothing, opens, closes}
-use denote.Triple.Walked.{Stays, walk_of, says, stay_ref, Goes-ref, ends_at}
+use Rattle.dary_heap.proofs.hole.Walks.{◌+◌, [], ◌∷◌, refl, proved, id⊢, ftrue, flft, named, vunit, ‵, ◌⊛◌, ◌$◌, ◌∵◌, !, qed, move, keep, use1, split, join, fsplit3, feq_i, suffices, frame, group, done, enter, of_opd, unit_lit, returns, alloc_all, pass_all, free_all, look_at, sets, MutRef, mut_vals, mut_Tells, plain, nothing, opens, closes, Stays, walk_of, says, stay_ref, Goes-ref, ends_at}
 use Rattle.dary_heap.specs.declared.sift.judge.Count.{Count}
 use Rattle.dary_heap.specs.contracts.sift.judge.Count.{the_row as R}
 use Rattle.dary_heap.specs.contracts.sift.judge.Count.add_one as f

@@ -1,16 +1,5 @@
 -- `new` makes the empty struct, and picks 0 for its ghost field.
-use Rattle.std.proofs.Common.{[], ◌∷◌, refl}
-use Rattle.std.proofs.raw_atomic.Walks.{proved}
-use mir.Val.{Val, vstruct, vnil}
-use base.Fml.{ftrue}
-use types.Kit.{‵, raw, ◌$◌, ◌∵◌, !, qed, keep, join, suffices, done}
-use types.Part.{agg}
-use types.Run.{no_more, returns, enter}
-use types.ByLocal.{alloc_all, pass_all, free_all, look_at, sets}
-use denote.Shadow.{pure_i}
-use denote.Steps.{nothing}
-use denote.Triple.Entry.{on_entry}
-use denote.Triple.Walked.{says, ends_at}
+use Rattle.dary_heap.proofs.hole.Walks.{[], ◌∷◌, refl, proved, Val, vstruct, vnil, ftrue, ‵, raw, ◌$◌, ◌∵◌, !, qed, keep, join, suffices, done, agg, no_more, returns, enter, alloc_all, pass_all, free_all, look_at, sets, pure_i, nothing, on_entry, says, ends_at}
 use Rattle.dary_heap.specs.declared.sift.judge.Count.{Count}
 use Rattle.dary_heap.specs.contracts.sift.judge.Count.{the_row as R}
 use Rattle.dary_heap.specs.contracts.sift.judge.Count.new as f
