@@ -1,6 +1,7 @@
 -- States that differ, and lists in which no two states are the same.
 use Rattle.std.proofs.Common.{◌≡◌, ℕ, ◌<◌, Bool, true, false, ◌&&◌, nat_eq, List, ◌∷◌, Contains, refl, sym, ap, ◌∙◌, arith}
 use Rattle.std.proofs.lemmas.Bool.{true≢false}
+use Rattle.std.proofs.lemmas.Bool.Decides.{nat_tests}
 use Rattle.std.proofs.lemmas.List.Elements.{All-contains, All-contains_itself, All-from_recursion, All-weaker, recursion_from_All}
 use Rattle.std.proofs.lemmas.Map.Keys.{IsDistinct-IsPermutation, IsDistinct-cons, IsDistinct-head, IsDistinct-tail}
 use Rattle.std.specs.Bool.{Decides}
@@ -13,13 +14,8 @@ use Rattle.dary_heap.specs.declared.shortest_path.State.{State}
 flips : (s t : State) → same_state s t ≡ same_state t s
 flips s t = ap (λ b. b && nat_eq s.position t.position) (nat_eq_equiv.symm s.cost t.cost) ∙ ap (λ b. nat_eq t.cost s.cost && b) (nat_eq_equiv.symm s.position t.position)
 
-both : (b c : Bool) → b ≡ true → c ≡ true → (b && c) ≡ true
-both true true h k = refl
-both true false h k = absurd (true≢false (sym k))
-both false c h k = absurd (true≢false (sym h))
-
 itself : (s : State) → same_state s s ≡ true
-itself s = both (nat_eq s.cost s.cost) (nat_eq s.position s.position) ((unsigned_Decides s.cost s.cost).1 refl) ((unsigned_Decides s.position s.position).1 refl)
+itself s = grind (arith, nat_tests)
 
 not_both : (b c : Bool) (m n i j : ℕ) → Decides b (m ≡ n) → Decides c (i ≡ j) → (i ≡ j → m < n) → (b && c) ≡ false
 not_both true true m n i j p q less = let under : m < n = less (q.0 refl) in absurd (omega (arith, p.0 refl))

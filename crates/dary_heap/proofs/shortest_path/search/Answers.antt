@@ -66,15 +66,6 @@ loop-cost-preserved c =
       charged = charged_long _ _ so_far.these so_far.examined (charged_push (charged_pop before.charged (omega (arith, length_permutation _ _ c.in-Some.ensures.bag)) c.in-Some.ensures.counted) so_far.pushes);
     }
 
-pub returns-in_err-relax-clause-least : goal.returns-in_err-relax-clause-least
-returns-in_err-relax-clause-least c = rw (err_from_is_err_and c.from_residual.result c.from_residual.ensures.1).1 tt
-
-pub returns-in_err-relax-clause-unreached : goal.returns-in_err-relax-clause-unreached
-returns-in_err-relax-clause-unreached c = rw (err_from_is_err_and c.from_residual.result c.from_residual.ensures.1).1 tt
-
-pub returns-in_err-relax-clause-uncritical : goal.returns-in_err-relax-clause-uncritical
-returns-in_err-relax-clause-uncritical c = rw (err_from_is_err_and c.from_residual.result c.from_residual.ensures.1).1 tt
-
 pub returns-in_err-relax-clause-too_large : goal.returns-in_err-relax-clause-too_large
 returns-in_err-relax-clause-too_large c =
     let p = err_from_is_err_and c.from_residual.result c.from_residual.ensures.1 in

@@ -7,13 +7,6 @@ stepped : (t : Bool) (n : ℕ) → n + bool_byte t ≡ (if t then n + 1 else n)
 stepped true n = refl
 stepped false n = omega arith
 
-pub overflow_add-result : goal.overflow_add-result
-overflow_add-result g c = record { fits = at_most c.at_most.result }
-  where
-    at_most : (t : Bool) → c.args.first + bool_byte t < 2 ^ 64
-    at_most true = omega (arith, c.requires.within, c.args.hole.now.small, c.args.hole.now.ok.0)
-    at_most false = omega (arith, c.requires.within, c.args.hole.now.small, c.args.hole.now.ok.0)
-
 pub returns : goal.returns
 returns g c =
     let first = c.args.first in let t = c.at_most.result in
