@@ -9,15 +9,16 @@ use crate::sequenced::Sequenced;
 use dary_heap::sift::{ByOrd, Judge};
 use std::cmp::Reverse;
 
-/// Judges entries by their keys alone, and the keys as numbers.
+/// Judges an entry by its key alone, and the bits of a double by the total order of IEEE 754. Of two
+/// sequenced items with equal keys the one with the lesser sequence number is the greater.
 #[derive(Drop)]
-pub(crate) struct ByKey {
+pub struct ByKey {
     keys: ByOrd,
 }
 
 impl ByKey {
     /// A judge that made no comparison yet.
-    pub(crate) fn new() -> ByKey
+    pub fn new() -> ByKey
         ensures { result.keys ≡ 0 }
     {
         ByKey { keys: ByOrd::new() }
@@ -36,22 +37,7 @@ impl Judge<Entry> for ByKey {
     }
 }
 
-/// Judges by the keys, and of equal keys the one with the lesser sequence number is the greater.
-#[derive(Drop)]
-pub(crate) struct ByEarlier {
-    keys: ByOrd,
-}
-
-impl ByEarlier {
-    /// A judge that made no comparison yet.
-    pub(crate) fn new() -> ByEarlier
-        ensures { result.keys ≡ 0 }
-    {
-        ByEarlier { keys: ByOrd::new() }
-    }
-}
-
-impl Judge<Sequenced> for ByEarlier {
+impl Judge<Sequenced> for ByKey {
     ghost order = { key_then_earlier };
 
     ghost count = { λ judge. judge.keys };
@@ -66,13 +52,13 @@ impl Judge<Sequenced> for ByEarlier {
 
 /// Judges by the keys, and of equal keys the one with the greater sequence number is the greater.
 #[derive(Drop)]
-pub(crate) struct ByLater {
+pub struct ByLater {
     keys: ByOrd,
 }
 
 impl ByLater {
     /// A judge that made no comparison yet.
-    pub(crate) fn new() -> ByLater
+    pub fn new() -> ByLater
         ensures { result.keys ≡ 0 }
     {
         ByLater { keys: ByOrd::new() }
@@ -92,21 +78,6 @@ impl Judge<Sequenced> for ByLater {
     }
 }
 
-/// Judges the bits of doubles by the total order of IEEE 754.
-#[derive(Drop)]
-pub(crate) struct ByBits {
-    keys: ByOrd,
-}
-
-impl ByBits {
-    /// A judge that made no comparison yet.
-    pub(crate) fn new() -> ByBits
-        ensures { result.keys ≡ 0 }
-    {
-        ByBits { keys: ByOrd::new() }
-    }
-}
-
 /// The place of a double in the total order.
 #[inline(always)]
 fn key_of(bits: u64) -> i64
@@ -120,7 +91,7 @@ fn key_of(bits: u64) -> i64
     }
 }
 
-impl Judge<u64> for ByBits {
+impl Judge<u64> for ByKey {
     ghost order = { total_order };
 
     ghost count = { λ judge. judge.keys };
@@ -134,13 +105,13 @@ impl Judge<u64> for ByBits {
 
 /// Judges as another judge does, with the two items exchanged, so that the least comes first.
 #[derive(Drop)]
-pub(crate) struct LeastFirst<J> {
+pub struct LeastFirst<J> {
     judge: J,
 }
 
 impl<J> LeastFirst<J> {
     /// The judge that exchanges the items for this one.
-    pub(crate) fn new(judge: J) -> LeastFirst<J>
+    pub fn new(judge: J) -> LeastFirst<J>
         ensures { result.judge ≡ judge }
     {
         LeastFirst { judge }
