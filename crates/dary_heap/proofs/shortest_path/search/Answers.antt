@@ -12,7 +12,6 @@ use Rattle.dary_heap.specs.declared.shortest_path.State.{State}
 use Rattle.dary_heap.specs.Walk.{Graph}
 use Rattle.dary_heap.proofs.shortest_path.Examining.{AreOnce, all_examined, charged_ends, last_examined, none_examined, once_few, distinct_node, IsCharged, charged_begins, charged_long, charged_pop, charged_push, all_edges_more, edges_at, once_begins, once_more, once_skips}
 use Rattle.dary_heap.proofs.shortest_path.Searching.{IsSearch, taken, found_least, found_uncritical, none_reached, none_uncritical, too_large, after_skip, after_examining, search_begins}
-use Rattle.dary_heap.proofs.sift.Uncounted.{none_counted}
 use Rattle.dary_heap.proofs.shortest_path.search.Goals.{In_default-pop, In_err-relax}
 use Rattle.dary_heap.proofs.shortest_path.search.Goals as goal
 
