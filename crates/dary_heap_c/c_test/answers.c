@@ -14,14 +14,26 @@
 
 #define LONGEST 70
 
+/* The functions, with those behind that have a place or a start. ANY stands for all. */
+enum function { MAKE, SORT, PUSH, POP, REPLACE, SORT_HEAP, FIX, REMOVE, MEND, IS_HEAP, ANY };
+
+static const char *const names[] = {"make", "sort",   "push", "pop",     "replace", "sort_heap",
+                                    "fix",  "remove", "mend", "is_heap", "any"};
+
+/* The order and the arity of the calls that are made now. */
+static bool is_max;
+static size_t arity;
+
 static int checks, wrong;
 
-static void check(bool right, const char *function, size_t arity, size_t len, const char *what) {
+static void check(bool right, enum function function, const char *kind, size_t len,
+                  const char *what) {
     checks++;
     if (right)
         return;
     wrong++;
-    printf("dary_heap_c: %s at arity %zu, length %zu: %s\n", function, arity, len, what);
+    printf("dary_heap_c: %s_%s_%s at arity %zu, length %zu: %s\n", is_max ? "max" : "min",
+           names[function], kind, arity, len, what);
 }
 
 /* Where the items of a test stand. */
@@ -130,134 +142,102 @@ static struct dheap_sequenced sequenced_of(int64_t key, uint64_t value) {
     return (struct dheap_sequenced){key, value, value};
 }
 
-#define ORDER max
 #define KIND i64
 #define ITEM int64_t
-#define ITEM_OF i64_of
-#define COMES_BEFORE(a, b) ((a) > (b))
+#define LESS(a, b) ((a) < (b))
+#define EARLIER(a, b) false
 #include "kind.h"
 
-#define ORDER min
-#define KIND i64
-#define ITEM int64_t
-#define ITEM_OF i64_of
-#define COMES_BEFORE(a, b) ((a) < (b))
-#include "kind.h"
-
-#define ORDER max
 #define KIND u64
 #define ITEM uint64_t
-#define ITEM_OF u64_of
-#define COMES_BEFORE(a, b) ((a) > (b))
+#define LESS(a, b) ((a) < (b))
+#define EARLIER(a, b) false
 #include "kind.h"
 
-#define ORDER min
-#define KIND u64
-#define ITEM uint64_t
-#define ITEM_OF u64_of
-#define COMES_BEFORE(a, b) ((a) < (b))
-#include "kind.h"
-
-#define ORDER max
 #define KIND double
 #define ITEM double
-#define ITEM_OF double_of
-#define COMES_BEFORE(a, b) double_less(b, a)
+#define LESS(a, b) double_less(a, b)
+#define EARLIER(a, b) false
 #include "kind.h"
 
-#define ORDER min
-#define KIND double
-#define ITEM double
-#define ITEM_OF double_of
-#define COMES_BEFORE(a, b) double_less(a, b)
-#include "kind.h"
-
-#define ORDER max
 #define KIND entry
 #define ITEM struct dheap_entry
-#define ITEM_OF entry_of
-#define COMES_BEFORE(a, b) ((a).key > (b).key)
+#define LESS(a, b) ((a).key < (b).key)
+#define EARLIER(a, b) false
 #include "kind.h"
 
-#define ORDER min
-#define KIND entry
-#define ITEM struct dheap_entry
-#define ITEM_OF entry_of
-#define COMES_BEFORE(a, b) ((a).key < (b).key)
-#include "kind.h"
-
-#define ORDER max
 #define KIND sequenced
 #define ITEM struct dheap_sequenced
-#define ITEM_OF sequenced_of
-#define COMES_BEFORE(a, b) ((a).key > (b).key || ((a).key == (b).key && (a).sequence < (b).sequence))
+#define LESS(a, b) ((a).key < (b).key)
+#define EARLIER(a, b) ((a).sequence < (b).sequence)
 #include "kind.h"
 
-#define ORDER min
-#define KIND sequenced
-#define ITEM struct dheap_sequenced
-#define ITEM_OF sequenced_of
-#define COMES_BEFORE(a, b) ((a).key < (b).key || ((a).key == (b).key && (a).sequence < (b).sequence))
-#include "kind.h"
+/* The tests of each kind. */
+static const struct {
+    void (*test)(size_t len, enum place where);
+    void (*test_long)(void);
+} kinds[] = {
+    {test_i64, test_long_i64},
+    {test_u64, test_long_u64},
+    {test_double, test_long_double},
+    {test_entry, test_long_entry},
+    {test_sequenced, test_long_sequenced},
+};
 
-/* The functions of each kind and order. */
-#define EACH(call) \
-    call(max, i64, int64_t) \
-    call(min, i64, int64_t) \
-    call(max, u64, uint64_t) \
-    call(min, u64, uint64_t) \
-    call(max, double, double) \
-    call(min, double, double) \
-    call(max, entry, struct dheap_entry) \
-    call(min, entry, struct dheap_entry) \
-    call(max, sequenced, struct dheap_sequenced) \
-    call(min, sequenced, struct dheap_sequenced)
-
-#define TEST(order, kind, item) test_##order##_##kind(arity, len, where);
-#define TEST_LONG(order, kind, item) test_long_##order##_##kind(arity, LONG(item));
-
-/* From so many bytes on, times the arity, the library goes down in another way. */
-#define LONG(item) (((size_t)arity << 21) / sizeof(item) + 1000)
+enum { KINDS = sizeof kinds / sizeof *kinds };
 
 /* Items with few different keys come out in the order of their keys, and equal ones in the order in which they came
  * in. */
-static void test_turns(size_t arity, bool is_max) {
+static void test_turns(void) {
     struct dheap_sequenced items[LONGEST];
-    size_t len = 0;
-    for (; len < LONGEST; len++) {
+    for (size_t len = 0; len < LONGEST; len++) {
         items[len] = (struct dheap_sequenced){(int64_t)drawn(4), len, 1000 + len};
-        check(is_max ? dheap_max_push_sequenced(items, len + 1, arity) : dheap_min_push_sequenced(items, len + 1, arity),
-              "push_sequenced", arity, len, "it returns false");
+        check(call_sequenced(PUSH, items, len + 1, 0), PUSH, "sequenced", len, "it returns false");
     }
     struct dheap_sequenced before = items[0];
-    for (size_t left = len; left > 0; left--) {
+    for (size_t left = LONGEST; left > 0; left--) {
         const struct dheap_sequenced item = items[0];
-        check(is_max ? dheap_max_pop_sequenced(items, left, arity) : dheap_min_pop_sequenced(items, left, arity),
-              "pop_sequenced", arity, left, "it returns false");
+        check(call_sequenced(POP, items, left, 0), POP, "sequenced", left, "it returns false");
         const bool later_key = is_max ? item.key < before.key : item.key > before.key;
         const bool later = item.key == before.key && item.sequence > before.sequence;
-        check(left == len || later_key || later, "pop_sequenced", arity, left, "it comes out of turn");
-        check(item.value == 1000 + item.sequence, "pop_sequenced", arity, left, "it has another value");
+        check(left == LONGEST || later_key || later, POP, "sequenced", left, "it comes out of turn");
+        check(item.value == 1000 + item.sequence, POP, "sequenced", left, "it has another value");
         before = item;
+    }
+}
+
+/* The tests of an arity, on max-heaps and on min-heaps by turns. */
+static void test_all(void) {
+    for (size_t len = 0; len <= LONGEST; len++) {
+        for (enum place where = 0; where < PLACES; where++) {
+            for (size_t i = 0; i < 2 * KINDS; i++) {
+                is_max = i % 2 == 0;
+                kinds[i / 2].test(len, where);
+            }
+        }
+    }
+    is_max = true;
+    test_turns();
+    is_max = false;
+    test_turns();
+}
+
+static void test_all_long(void) {
+    for (size_t i = 0; i < 2 * KINDS; i++) {
+        is_max = i % 2 == 0;
+        kinds[i / 2].test_long();
     }
 }
 
 int main(int words, char **word) {
     make_page();
-    for (size_t arity = 1; arity <= DARY_HEAP_ARITY_MAX; arity++) {
-        for (size_t len = 0; len <= LONGEST; len++) {
-            for (enum place where = 0; where < PLACES; where++) {
-                EACH(TEST)
-            }
-        }
-        test_turns(arity, true);
-        test_turns(arity, false);
-    }
+    for (arity = 1; arity <= DARY_HEAP_ARITY_MAX; arity++)
+        test_all();
     const bool is_short = words > 1 && strcmp(word[1], "short") == 0;
     const size_t arities[] = {2, 3, 4, 8};
     for (size_t i = 0; !is_short && i < sizeof arities / sizeof *arities; i++) {
-        const size_t arity = arities[i];
-        EACH(TEST_LONG)
+        arity = arities[i];
+        test_all_long();
     }
     printf("dary_heap_c: %d of %d answers are wrong%s\n", wrong, checks, is_short ? ", without long arrays" : "");
     return wrong != 0;
