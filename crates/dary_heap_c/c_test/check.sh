@@ -26,8 +26,11 @@ if [[ ! -v CC ]] && ! command -v cc > /dev/null; then
     exit 0
 fi
 command -v "${compiler[0]-}" > /dev/null || fail "CC is '${CC-}', which isn't found"
-if [[ -v CXX ]]; then
-    command -v "${cpp[0]-}" > /dev/null || fail "CXX is '$CXX', which isn't found"
+has_cpp=true
+if ! command -v "${cpp[0]-}" > /dev/null; then
+    [[ ! -v CXX ]] || fail "CXX is '$CXX', which isn't found"
+    say 'there is no C++ compiler c++, so the programs in C++ are left out'
+    has_cpp=false
 fi
 command -v nm > /dev/null || fail 'there is no nm'
 
@@ -76,7 +79,7 @@ strict=(-Wall -Wextra -Wpedantic -Werror -O2)
 # Older and newer languages read the header too.
 for it in c99 c17 c++11 c++20; do
     case $it in
-        c++*) ! command -v "${cpp[0]}" > /dev/null || "${cpp[@]}" "-std=$it" "${strict[@]}" -fsyntax-only -x c++ "$header" ;;
+        c++*) ! $has_cpp || "${cpp[@]}" "-std=$it" "${strict[@]}" -fsyntax-only -x c++ "$header" ;;
         *) "${compiler[@]}" "-std=$it" "${strict[@]}" -fsyntax-only -x c "$header" ;;
     esac || fail "the header isn't read as $it"
 done
@@ -98,10 +101,6 @@ shows() {
     compile program "$source" "$@"
     [[ "$("$room/program")" == "$wanted" ]] || fail "$source prints something else"
 }
-
-has_cpp=false
-! command -v "${cpp[0]}" > /dev/null || has_cpp=true
-$has_cpp || say "there is no C++ compiler c++, so the programs in C++ are left out"
 
 due='30: timer 1, due at 20
 60: timer 0, due at 50
