@@ -35,6 +35,23 @@ module _ {X : Type 0} where
   pub came_cases : (x : X) (xs ys : List X) (y : X) → IsSameBag (x ∷ xs) ys → Contains ys y → (x ≡ y) ⊎ Contains xs y
   came_cases x xs ys y bag h = Contains-cases x xs y (Contains-permutation ys (x ∷ xs) y (IsPermutation-sym (x ∷ xs) ys bag) h)
 
+-- the items of xs are among those values
+abbrev pub IsAmong : {X : Type 0} → List X → List X → Type 0
+IsAmong {X} values xs = (x : X) → Contains xs x → Contains values x
+
+module _ {X : Type 0} (values : List X) where
+  pub IsAmong-cons : (x : X) (xs : List X) → Contains values x → IsAmong values xs → IsAmong values (x ∷ xs)
+  IsAmong-cons x xs here h y in' = elim (Contains-cases x xs y in') [ inl e ↦ subst (Contains values) e here | inr there ↦ h y there ]
+
+  pub IsAmong-tail : (x : X) (xs : List X) → IsAmong values (x ∷ xs) → IsAmong values xs
+  IsAmong-tail x xs h y in' = h y (Contains-later x xs y in')
+
+  pub IsAmong-append : (xs ys : List X) → IsAmong values xs → IsAmong values ys → IsAmong values (xs ++ ys)
+  IsAmong-append xs ys h k y in' = elim (Contains-append_cases xs ys y in') [ inl first ↦ h y first | inr second ↦ k y second ]
+
+  pub IsAmong-same : (xs ys : List X) → IsSameBag xs ys → IsAmong values xs → IsAmong values ys
+  IsAmong-same xs ys same h y in' = h y (Contains-permutation ys xs y (IsPermutation-sym xs ys same) in')
+
 -- the last item goes to the first place, whose item is taken out
 pub put_first : {T : Type 0} (xs : List T) (x m : T) → slice_get xs 0 ≡ Some m → IsPermutation (xs ++ x ∷ []) (m ∷ set xs 0 x)
 put_first [] x m first = cc

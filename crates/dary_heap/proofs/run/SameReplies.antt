@@ -1,45 +1,25 @@
--- Without ties, questions and refusals, two runs from the same bag give the same replies and leave the same bag.
-use Rattle.std.proofs.Common.{◌≡◌, ◌≢◌, ℕ, zero, suc, Bool, true, false, List, [], ◌∷◌, ◌++◌, length, refl, sym, ap, ◌∙◌, subst, arith, inl, inr, Option, Some, None, Contains}
+-- Without ties, questions and refusals, two runs from the same bag give the same replies and leave the same bag: their states are the same ones, and so both may be read from the first.
+use Rattle.std.proofs.Common.{◌≡◌, ◌≢◌, ℕ, zero, suc, Bool, true, false, List, [], ◌∷◌, ◌++◌, length, refl, sym, ap, ◌∙◌, subst, arith, rules, inl, inr, Option, Some, None, Contains}
 use Rattle.std.specs.List.{AllByRecursion}
 use Rattle.std.specs.Cmp.{IsTotalOrder}
 use Rattle.std.specs.Ordering.{ordering_reverse}
 use Rattle.std.specs.declared.cmp.Ordering.{Ordering}
 use Rattle.std.specs.declared.cmp.Ordering.TheVariants.{Less, Equal, Greater}
 use Rattle.std.proofs.lemmas.List.Elements.{Contains-append_left, Contains-append_right, Contains-append_cases}
-use Rattle.std.proofs.lemmas.List.Sorted.{IsPermutation-refl, IsPermutation-sym, IsPermutation-trans, IsPermutation-cons, IsPermutation-append_left, Contains-permutation, length_permutation}
+use Rattle.std.proofs.lemmas.List.Sorted.{IsPermutation-refl, IsPermutation-sym, IsPermutation-trans, IsPermutation-cons, Contains-permutation, length_permutation}
 use Rattle.dary_heap.specs.Asking.{items_in, written}
-use Rattle.dary_heap.specs.Bag.{IsSameBag, IsGreatest, HasGreater}
+use Rattle.dary_heap.specs.Bag.{IsSameBag, IsGreatest, IsGreatest-same_bag}
 use Rattle.dary_heap.specs.Machine.{Act, Write, Refresh, End, PutBack, TakeOut, Seen, Old, Changed, Command, Reply, Push, Pop, PopIf, Ask, Len, Retain, Extend, Append, Reserve, Shrink, Clear, Drain, DrainSorted, Loan, Pushed, PushRefused, Popped, Size, Done, ExtendRefused, Refused, Taken, Loaned, Acts, Ends, Pops, PopsInTurn, Step, Steps, last_state}
 use Rattle.dary_heap.specs.Contents.{Contents}
 use Rattle.dary_heap.specs.Run.{Runs}
-use Rattle.dary_heap.specs.State.{IsState, front}
+use Rattle.dary_heap.specs.State.{IsState, IsSameState, front}
 use Rattle.dary_heap.specs.TwoArities.{HasNoTies, IsSettled, IsUnrefused, RunsUnrefused, SameRepliesAtTwoArities}
-use Rattle.dary_heap.proofs.Bags.{Contains-cases, Contains-first, Contains-later}
+use Rattle.dary_heap.proofs.Bags.{Contains-first, IsAmong, IsAmong-cons, IsAmong-tail, IsAmong-append, IsAmong-same}
 use Rattle.dary_heap.proofs.Cancelling.{IsPermutation-uncons}
-use Rattle.dary_heap.proofs.run.States.{HasGreater-same_bag, Step-state}
-
--- the items of xs are among those values
-abbrev IsAmong : {X : Type 0} → List X → List X → Type 0
-IsAmong {X} values xs = (x : X) → Contains xs x → Contains values x
-
-IsAmong-cons : {X : Type 0} (values : List X) (x : X) (xs : List X) → Contains values x → IsAmong values xs → IsAmong values (x ∷ xs)
-IsAmong-cons values x xs here h y in' = elim (Contains-cases x xs y in') [ inl e ↦ subst (Contains values) e here | inr there ↦ h y there ]
-
-IsAmong-same : {X : Type 0} (values xs ys : List X) → IsSameBag xs ys → IsAmong values xs → IsAmong values ys
-IsAmong-same values xs ys same h y in' = h y (Contains-permutation ys xs y (IsPermutation-sym xs ys same) in')
-
-IsAmong-tail : {X : Type 0} (values : List X) (x : X) (xs : List X) → IsAmong values (x ∷ xs) → IsAmong values xs
-IsAmong-tail values x xs h y in' = h y (Contains-later x xs y in')
-
-IsAmong-append : {X : Type 0} (values xs ys : List X) → IsAmong values xs → IsAmong values ys → IsAmong values (xs ++ ys)
-IsAmong-append values xs ys h k y in' = elim (Contains-append_cases xs ys y in') [ inl first ↦ h y first | inr second ↦ k y second ]
-
--- two states with the same bag, of these values
-record AreAlike {X : Type 0} (cmp : X → X → Ordering) (values one other : List X) : Type 0 where
-  bag : IsSameBag one other
-  first : IsState cmp one
-  second : IsState cmp other
-  among : IsAmong values one
+use Rattle.dary_heap.proofs.Fronts.{same_state}
+use Rattle.dary_heap.proofs.run.SameStates.{Step-same_state, in_turn, turned}
+use Rattle.dary_heap.proofs.run.ServingLoan.{Acts-among, Acts-from}
+use Rattle.dary_heap.proofs.run.States.{Step-state}
 
 module _ {X P : Type 0} {cmp : X → X → Ordering} (calls : P → X → Bool → P → Type 0) (total : IsTotalOrder cmp) (values : List X) (untied : HasNoTies cmp values) where
   tied : (r : Ordering) (x y : X) → cmp x y ≡ r → r ≢ Greater → cmp y x ≢ Greater → r ≡ Equal
@@ -48,129 +28,28 @@ module _ {X P : Type 0} {cmp : X → X → Ordering} (calls : P → X → Bool �
   tied Greater x y e h k = absurd (h refl)
 
   -- without ties a bag has one greatest value
-  one_greatest : (xs ys : List X) (x y : X) → IsSameBag xs ys → IsAmong values xs → IsGreatest cmp xs x → IsGreatest cmp ys y → x ≡ y
-  one_greatest xs ys x y same among h k =
-      let there = Contains-permutation xs ys x same h.occurs in
-      let here = Contains-permutation ys xs y (IsPermutation-sym xs ys same) k.occurs in
-      untied.alike x y (among x h.occurs) (among y here) (tied (cmp x y) x y refl (k.none_above x there) (h.none_above y here))
+  one_greatest : (xs : List X) (x y : X) → IsAmong values xs → IsGreatest cmp xs x → IsGreatest cmp xs y → x ≡ y
+  one_greatest xs x y among h k = untied.alike x y (among x h.occurs) (among y k.occurs) (tied (cmp x y) x y refl (k.none_above x h.occurs) (h.none_above y k.occurs))
 
-  -- what is left where the same value is taken out of the same bag
-  left_alike : (xs ys us vs : List X) (x y : X) → IsSameBag xs ys → x ≡ y → IsSameBag xs (x ∷ us) → IsSameBag ys (y ∷ vs) → IsSameBag us vs
-  left_alike xs ys us vs x y same e h k =
-      IsPermutation-uncons x us vs (IsPermutation-trans _ _ _ (IsPermutation-sym _ _ h) (IsPermutation-trans _ _ _ same (subst (λ v. IsSameBag ys (v ∷ vs)) (sym e) k)))
+  -- and so one front
+  one_state : (xs ys : List X) → IsSameBag xs ys → IsAmong values xs → IsState cmp xs → IsState cmp ys → IsSameState xs ys
+  one_state [] [] same among h k = record { bag = same; first = refl }
+  one_state [] (y ∷ ys) same among h k = absurd (omega (arith, length_permutation _ _ same))
+  one_state (x ∷ xs) [] same among h k = absurd (omega (arith, length_permutation _ _ same))
+  one_state (x ∷ xs) (y ∷ ys) same among h k =
+      let greatest = IsGreatest-same_bag (y ∷ ys) (x ∷ xs) y (IsPermutation-sym _ _ same) (k.greatest y refl) in
+      record { bag = same; first = ap Some (one_greatest (x ∷ xs) y x among greatest (h.greatest x refl)) }
 
-  -- two bags that each come from one of two same bags
-  through : (xs ys us vs : List X) → IsSameBag xs ys → IsSameBag xs us → IsSameBag ys vs → IsSameBag us vs
-  through xs ys us vs same h k = IsPermutation-trans _ _ _ (IsPermutation-sym _ _ h) (IsPermutation-trans _ _ _ same k)
+  one_front : (old : List X) (x y : X) → front old ≡ Some x → front old ≡ Some y → x ≡ y
+  one_front old x y h k = let same : Some x ≡ Some y = sym h ∙ k in cc
 
-  -- the fronts of two such states are one value
-  same_front : (one other : List X) (x y : X) → AreAlike cmp values one other → front one ≡ Some x → front other ≡ Some y → x ≡ y
-  same_front one other x y alike p q = one_greatest one other x y alike.bag alike.among (alike.first.greatest x p) (alike.second.greatest y q)
+  -- two listings of one bag
+  same_bag : (xs us vs : List X) → IsSameBag xs us → IsSameBag xs vs → IsSameBag us vs
+  same_bag xs us vs h k = IsPermutation-trans _ _ _ (IsPermutation-sym _ _ h) k
 
-  none_alike : (one other : List X) (m : X) → IsSameBag one other → one ≡ [] → front other ≡ Some m → ⊥
-  none_alike one [] m same none is = cc
-  none_alike one (x ∷ other) m same none is = omega (arith, length_permutation _ _ same, ap length none)
-
-  none_alike_back : (one other : List X) (m : X) → IsSameBag one other → other ≡ [] → front one ≡ Some m → ⊥
-  none_alike_back one other m same none is = none_alike other one m (IsPermutation-sym _ _ same) none is
-
-  both_empty : (one other : List X) → one ≡ [] → other ≡ [] → IsSameBag one other
-  both_empty one other p q = subst (IsSameBag one) (p ∙ sym q) (IsPermutation-refl one)
-
-  -- a pop from each
-  popped : (one other : List X) (x y : X) (new new' : List X) → AreAlike cmp values one other → Pops cmp one x new → Pops cmp other y new' → (x ≡ y) × AreAlike cmp values new new'
-  popped one other x y new new' alike h k =
-      let same = same_front one other x y alike h.0 k.0 in (
-        same,
-        record {
-          bag = left_alike one other new new' x y alike.bag same h.1 k.1;
-          first = h.2;
-          second = k.2;
-          among = IsAmong-tail values x new (IsAmong-same values one (x ∷ new) h.1 alike.among);
-        },
-      )
-
-  popped_in_turn : (one other : List X) (k : ℕ) (taken taken' : List X) → AreAlike cmp values one other → PopsInTurn cmp one k taken → PopsInTurn cmp other k taken' → taken ≡ taken'
-  popped_in_turn one other zero taken taken' alike h k = h ∙ sym k
-  popped_in_turn one other (suc n) [] [] alike h k = refl
-  popped_in_turn one other (suc n) [] (y ∷ taken') alike h k = absurd (none_alike one other y alike.bag h k.1.0)
-  popped_in_turn one other (suc n) (x ∷ taken) [] alike h k = absurd (none_alike_back one other x alike.bag k h.1.0)
-  popped_in_turn one other (suc n) (x ∷ taken) (y ∷ taken') alike h k =
-      let both = popped one other x y h.0 k.0 alike h.1 k.1 in
-      let more = popped_in_turn h.0 k.0 n taken taken' both.1 h.2 k.2 in
-      let first = both.0 in
-      cc
-
-  -- what two loans of the same value hold, see and leave
-  record LoansAlike (seen seen' : List (Seen X)) (last last' : X) (left left' : List X) : Type 0 where
-    told : seen ≡ seen'
-    held : last ≡ last'
-    rest : IsSameBag left left'
-    among : IsAmong values (last ∷ left)
-
-  acted : (held held' : X) (rest rest' : List X) (acts : List (Act X)) (seen seen' : List (Seen X)) (last last' : X) (left left' : List X) → held ≡ held' → IsSameBag rest rest' → IsAmong values (held ∷ rest) → IsAmong values (written acts) → Acts cmp held rest acts seen last left → Acts cmp held' rest' acts seen' last' left' → LoansAlike seen seen' last last' left left'
-  acted held held' rest rest' [] [] [] last last' left left' e same among wrote h k = record {
-    told = refl;
-    held = h.0 ∙ e ∙ sym k.0;
-    rest = through rest rest' left left' same h.1 k.1;
-    among = subst (λ v. IsAmong values (v ∷ left)) (sym h.0) (IsAmong-cons values held left (among held (Contains-first held rest)) (IsAmong-same values rest left h.1 (IsAmong-tail values held rest among)));
-  }
-  acted held held' rest rest' [] [] seen' last last' left left' e same among wrote h k = absurd k
-  acted held held' rest rest' [] seen seen' last last' left left' e same among wrote h k = absurd h
-  acted held held' rest rest' (Write x ∷ acts) (Old y ∷ seen) (Old y' ∷ seen') last last' left left' e same among wrote h k =
-      let more = acted x x rest rest' acts seen seen' last last' left left' refl same (IsAmong-cons values x rest (wrote x (Contains-first x (written acts))) (IsAmong-tail values held rest among)) (IsAmong-tail values x (written acts) wrote) h.1 k.1 in
-      record { told = ap (λ v. Old v ∷ seen) (h.0 ∙ e ∙ sym k.0) ∙ ap (λ s. Old y' ∷ s) more.told; held = more.held; rest = more.rest; among = more.among }
-  acted held held' rest rest' (Write x ∷ acts) (Old y ∷ seen) seen' last last' left left' e same among wrote h k = absurd k
-  acted held held' rest rest' (Write x ∷ acts) seen seen' last last' left left' e same among wrote h k = absurd h
-  acted held held' rest rest' (Refresh ∷ acts) (Changed true ∷ seen) (Changed true ∷ seen') last last' left left' e same among wrote h k =
-      let whole : IsSameBag (held ∷ rest) (held' ∷ rest') = subst (λ v. IsSameBag (held ∷ rest) (v ∷ rest')) e (IsPermutation-cons held rest rest' same) in
-      let next = one_greatest (held ∷ rest) (held' ∷ rest') h.1.0 k.1.0 whole among h.1.2 k.1.2 in
-      let more = acted h.1.0 k.1.0 h.1.1 k.1.1 acts seen seen' last last' left left' next (left_alike (held ∷ rest) (held' ∷ rest') h.1.1 k.1.1 h.1.0 k.1.0 whole next h.1.3 k.1.3) (IsAmong-same values (held ∷ rest) (h.1.0 ∷ h.1.1) h.1.3 among) wrote h.1.4 k.1.4 in
-      record { told = ap (λ s. Changed true ∷ s) more.told; held = more.held; rest = more.rest; among = more.among }
-  acted held held' rest rest' (Refresh ∷ acts) (Changed true ∷ seen) (Changed false ∷ seen') last last' left left' e same among wrote h k =
-      absurd (k.0 (HasGreater-same_bag cmp rest rest' held' same (subst (HasGreater cmp rest) e h.0)))
-  acted held held' rest rest' (Refresh ∷ acts) (Changed true ∷ seen) seen' last last' left left' e same among wrote h k = absurd k
-  acted held held' rest rest' (Refresh ∷ acts) (Changed false ∷ seen) (Changed true ∷ seen') last last' left left' e same among wrote h k =
-      absurd (h.0 (HasGreater-same_bag cmp rest' rest held (IsPermutation-sym _ _ same) (subst (HasGreater cmp rest') (sym e) k.0)))
-  acted held held' rest rest' (Refresh ∷ acts) (Changed false ∷ seen) (Changed false ∷ seen') last last' left left' e same among wrote h k =
-      let more = acted held held' rest rest' acts seen seen' last last' left left' e same among wrote h.1 k.1 in
-      record { told = ap (λ s. Changed false ∷ s) more.told; held = more.held; rest = more.rest; among = more.among }
-  acted held held' rest rest' (Refresh ∷ acts) (Changed false ∷ seen) seen' last last' left left' e same among wrote h k = absurd k
-  acted held held' rest rest' (Refresh ∷ acts) seen seen' last last' left left' e same among wrote h k = absurd h
-
-  -- what a reply that is no refusal says, command by command
-  push_says : (x : X) (old : List X) (reply : Reply X) (new : List X) → IsUnrefused reply → Step cmp calls old (Push x) reply new → (reply ≡ Pushed) × IsSameBag (x ∷ old) new
-  push_says x old Pushed new fine step = (refl, step.0)
-  push_says x old (PushRefused y) new fine step = absurd fine
-  push_says x old reply new fine step = absurd step
-
-  len_says : (old : List X) (reply : Reply X) (new : List X) → Step cmp calls old Len reply new → (reply ≡ Size (length old)) × IsSameBag old new
-  len_says old (Size n) new step = (ap Size step.0, step.1.bag)
-  len_says old reply new step = absurd step
-
-  reserve_says : (n : ℕ) (old : List X) (reply : Reply X) (new : List X) → IsUnrefused reply → Step cmp calls old (Reserve n) reply new → (reply ≡ Done) × IsSameBag old new
-  reserve_says n old Done new fine step = (refl, step.bag)
-  reserve_says n old Refused new fine step = absurd fine
-  reserve_says n old reply new fine step = absurd step
-
-  shrink_says : (n : ℕ) (old : List X) (reply : Reply X) (new : List X) → IsUnrefused reply → Step cmp calls old (Shrink n) reply new → (reply ≡ Done) × IsSameBag old new
-  shrink_says n old Done new fine step = (refl, step.bag)
-  shrink_says n old Refused new fine step = absurd fine
-  shrink_says n old reply new fine step = absurd step
-
-  extend_says : (xs old : List X) (reply : Reply X) (new : List X) → IsUnrefused reply → Step cmp calls old (Extend xs) reply new → (reply ≡ Done) × IsSameBag (old ++ xs) new
-  extend_says xs old Done new fine step = (refl, step.bag)
-  extend_says xs old ExtendRefused new fine step = absurd fine
-  extend_says xs old reply new fine step = absurd step
-
-  clear_says : (old : List X) (reply : Reply X) (new : List X) → Step cmp calls old Clear reply new → (reply ≡ Done) × (new ≡ [])
-  clear_says old Done new step = (refl, step)
-  clear_says old reply new step = absurd step
-
-  drain_says : (k : ℕ) (old : List X) (reply : Reply X) (new : List X) → IsUnrefused reply → Step cmp calls old (DrainSorted k) reply new → (taken : List X) × (reply ≡ Taken taken) × PopsInTurn cmp old k taken × (new ≡ [])
-  drain_says k old (Taken taken) new fine step = (taken, refl, step.0, step.1)
-  drain_says k old Refused new fine step = absurd fine
-  drain_says k old reply new fine step = absurd step
+  -- what is left of a bag that the same value is taken out of
+  same_rest : (xs us vs : List X) (x y : X) → x ≡ y → IsSameBag xs (x ∷ us) → IsSameBag xs (y ∷ vs) → IsSameBag us vs
+  same_rest xs us vs x y e h k = IsPermutation-uncons x us vs (same_bag xs _ _ h (subst (λ v. IsSameBag xs (v ∷ vs)) (sym e) k))
 
   -- what two steps by the same command have in common
   record StepsAlike (reply reply' : Reply X) (new new' : List X) : Type 0 where
@@ -178,88 +57,95 @@ module _ {X P : Type 0} {cmp : X → X → Ordering} (calls : P → X → Bool �
     bag : IsSameBag new new'
     among : IsAmong values new
 
-  kept : (old old' : List X) (reply reply' same : Reply X) (new new' : List X) → AreAlike cmp values old old' → (reply ≡ same) × IsSameBag old new → (reply' ≡ same) × IsSameBag old' new' → StepsAlike reply reply' new new'
-  kept old old' reply reply' same new new' alike h k = record { replies = h.0 ∙ sym k.0; bag = through old old' new new' alike.bag h.1 k.1; among = IsAmong-same values old new h.1 alike.among }
+  -- they leave two listings of this bag
+  listed : (bag : List X) (reply reply' : Reply X) (new new' : List X) → reply ≡ reply' → IsAmong values bag → IsSameBag bag new → IsSameBag bag new' → StepsAlike reply reply' new new'
+  listed bag reply reply' new new' same among h k = record { replies = same; bag = same_bag bag new new' h k; among = IsAmong-same values bag new h among }
 
   emptied : (reply reply' : Reply X) (new new' : List X) → reply ≡ reply' → new ≡ [] → new' ≡ [] → StepsAlike reply reply' new new'
-  emptied reply reply' new new' same h k = record { replies = same; bag = both_empty new new' h k; among = subst (IsAmong values) (sym h) (λ y in'. absurd (omega (arith, in'.1))) }
+  emptied reply reply' new new' same h k =
+      let none = IsPermutation-refl [] in
+      listed [] reply reply' new new' same (λ y in'. absurd (omega (arith, in'.1))) (subst (IsSameBag []) (sym h) none) (subst (IsSameBag []) (sym k) none)
 
-  pop_alike : (old old' : List X) (reply reply' : Reply X) (new new' : List X) → AreAlike cmp values old old' → Step cmp calls old Pop reply new → Step cmp calls old' Pop reply' new' → StepsAlike reply reply' new new'
-  pop_alike old old' (Popped None) (Popped None) new new' alike h k = emptied _ _ new new' refl h.1 k.1
-  pop_alike old old' (Popped None) (Popped (Some y)) new new' alike h k = absurd (none_alike old old' y alike.bag h.0 k.0)
-  pop_alike old old' (Popped (Some x)) (Popped None) new new' alike h k = absurd (none_alike_back old old' x alike.bag k.0 h.0)
-  pop_alike old old' (Popped (Some x)) (Popped (Some y)) new new' alike h k =
-      let both = popped old old' x y new new' alike h k in
-      record { replies = ap (λ v. Popped (Some v)) both.0; bag = both.1.bag; among = both.1.among }
-  pop_alike old old' (Popped given) reply' new new' alike h k = absurd k
-  pop_alike old old' reply reply' new new' alike h k = absurd h
+  popped : (old : List X) (x y : X) (new new' : List X) → IsAmong values old → Pops cmp old x new → Pops cmp old y new' → StepsAlike (Popped (Some x)) (Popped (Some y)) new new'
+  popped old x y new new' among h k =
+      let same = one_front old x y h.0 k.0 in
+      record { replies = ap (λ v. Popped (Some v)) same; bag = same_rest old new new' x y same h.1 k.1; among = IsAmong-tail values x new (IsAmong-same values old (x ∷ new) h.1 among) }
 
-  ended : (last last' : X) (left left' : List X) (end : End) (popped popped' : Option X) (new new' : List X) → last ≡ last' → IsSameBag left left' → IsAmong values (last ∷ left) → Ends cmp last left end popped new → Ends cmp last' left' end popped' new' → (popped ≡ popped') × IsSameBag new new' × IsAmong values new
+  popped_in_turn : (old : List X) (k : ℕ) (taken taken' : List X) → IsAmong values old → PopsInTurn cmp old k taken → PopsInTurn cmp old k taken' → taken ≡ taken'
+  popped_in_turn old zero taken taken' among h k = h ∙ sym k
+  popped_in_turn old (suc n) [] [] among h k = refl
+  popped_in_turn old (suc n) [] (y ∷ taken') among h k = absurd (let none = ap front h in cc)
+  popped_in_turn old (suc n) (x ∷ taken) [] among h k = absurd (let none = ap front k in cc)
+  popped_in_turn old (suc n) (x ∷ taken) (y ∷ taken') among h k =
+      let both = popped old x y h.0 k.0 among h.1 k.1 in
+      let state = one_state h.0 k.0 both.bag both.among h.1.2 k.1.2 in
+      let more = popped_in_turn h.0 n taken taken' both.among h.2 (in_turn cmp calls k.0 h.0 n taken' (turned h.0 k.0 state) k.2) in
+      let first = one_front old x y h.1.0 k.1.0 in
+      cc
+
+  -- what two loans of the same value see, hold and leave
+  record LoansAlike (seen seen' : List (Seen X)) (last last' : X) (left left' : List X) : Type 0 where
+    told : seen ≡ seen'
+    held : last ≡ last'
+    rest : IsSameBag left left'
+
+  acted : (held : X) (rest : List X) (acts : List (Act X)) (seen seen' : List (Seen X)) (last last' : X) (left left' : List X) → IsAmong values (held ∷ rest) → IsAmong values (written acts) → Acts cmp held rest acts seen last left → Acts cmp held rest acts seen' last' left' → LoansAlike seen seen' last last' left left'
+  acted held rest [] [] [] last last' left left' among wrote h k = record { told = refl; held = h.0 ∙ sym k.0; rest = same_bag rest left left' h.1 k.1 }
+  acted held rest (Write x ∷ acts) (Old y ∷ seen) (Old y' ∷ seen') last last' left left' among wrote h k =
+      let now = IsAmong-cons values x rest (wrote x (Contains-first x (written acts))) (IsAmong-tail values held rest among) in
+      let more = acted x rest acts seen seen' last last' left left' now (IsAmong-tail values x (written acts) wrote) h.1 k.1 in
+      record { told = ap (λ v. Old v ∷ seen) (h.0 ∙ sym k.0) ∙ ap (λ s. Old y' ∷ s) more.told; held = more.held; rest = more.rest }
+  acted held rest (Refresh ∷ acts) (Changed true ∷ seen) (Changed true ∷ seen') last last' left left' among wrote h k =
+      let next = one_greatest (held ∷ rest) h.1.0 k.1.0 among h.1.2 k.1.2 in
+      let others = same_rest (held ∷ rest) h.1.1 k.1.1 h.1.0 k.1.0 next h.1.3 k.1.3 in
+      let then = Acts-from cmp h.1.0 k.1.0 h.1.1 k.1.1 acts seen' last' left' next others k.1.4 in
+      let more = acted h.1.0 h.1.1 acts seen seen' last last' left left' (IsAmong-same values (held ∷ rest) (h.1.0 ∷ h.1.1) h.1.3 among) wrote h.1.4 then in
+      record { told = ap (λ s. Changed true ∷ s) more.told; held = more.held; rest = more.rest }
+  acted held rest (Refresh ∷ acts) (Changed true ∷ seen) (Changed false ∷ seen') last last' left left' among wrote h k = absurd (k.0 h.0)
+  acted held rest (Refresh ∷ acts) (Changed false ∷ seen) (Changed true ∷ seen') last last' left left' among wrote h k = absurd (h.0 k.0)
+  acted held rest (Refresh ∷ acts) (Changed false ∷ seen) (Changed false ∷ seen') last last' left left' among wrote h k =
+      let more = acted held rest acts seen seen' last last' left left' among wrote h.1 k.1 in
+      record { told = ap (λ s. Changed false ∷ s) more.told; held = more.held; rest = more.rest }
+  acted held rest acts seen seen' last last' left left' among wrote h k = search rules
+
+  ended : (last last' : X) (left left' : List X) (end : End) (given given' : Option X) (new new' : List X) → last ≡ last' → IsSameBag left left' → IsAmong values (last ∷ left) → Ends cmp last left end given new → Ends cmp last' left' end given' new' → (given ≡ given') × IsSameBag new new' × IsAmong values new
   ended last last' left left' PutBack None None new new' e same among h k =
-      (refl, through (last ∷ left) (last' ∷ left') new new' (subst (λ v. IsSameBag (last ∷ left) (v ∷ left')) e (IsPermutation-cons last left left' same)) h.0 k.0, IsAmong-same values (last ∷ left) new h.0 among)
-  ended last last' left left' PutBack None (Some y) new new' e same among h k = absurd k
-  ended last last' left left' PutBack (Some x) popped' new new' e same among h k = absurd h
+      let whole = subst (λ v. IsSameBag (last ∷ left) (v ∷ left')) e (IsPermutation-cons last left left' same) in
+      (refl, same_bag (last ∷ left) new new' h.0 (IsPermutation-trans _ _ _ whole k.0), IsAmong-same values (last ∷ left) new h.0 among)
   ended last last' left left' TakeOut (Some x) (Some y) new new' e same among h k =
-      (ap Some (h.0 ∙ e ∙ sym k.0), through left left' new new' same h.1 k.1, IsAmong-same values left new h.1 (IsAmong-tail values last left among))
-  ended last last' left left' TakeOut (Some x) None new new' e same among h k = absurd k
-  ended last last' left left' TakeOut None popped' new new' e same among h k = absurd h
+      (ap Some (h.0 ∙ e ∙ sym k.0), same_bag left new new' h.1 (IsPermutation-trans _ _ _ same k.1), IsAmong-same values left new h.1 (IsAmong-tail values last left among))
+  ended last last' left left' end given given' new new' e same among h k = search rules
 
-  loan_alike : (acts : List (Act X)) (end : End) (old old' : List X) (reply reply' : Reply X) (new new' : List X) → AreAlike cmp values old old' → IsAmong values (written acts) → IsUnrefused reply → IsUnrefused reply' → Step cmp calls old (Loan acts end) reply new → Step cmp calls old' (Loan acts end) reply' new' → StepsAlike reply reply' new new'
-  loan_alike acts end old old' (Loaned None) (Loaned None) new new' alike wrote fine fine' h k = emptied _ _ new new' refl h.1 k.1
-  loan_alike acts end old old' (Loaned None) (Loaned (Some told)) new new' alike wrote fine fine' h k = absurd (none_alike old old' k.0 alike.bag h.0 k.4)
-  loan_alike acts end old old' (Loaned (Some told)) (Loaned None) new new' alike wrote fine fine' h k = absurd (none_alike_back old old' h.0 alike.bag k.0 h.4)
-  loan_alike acts end old old' (Loaned (Some told)) (Loaned (Some told')) new new' alike wrote fine fine' h k =
-      let first = same_front old old' h.0 k.0 alike h.4 k.4 in
-      let rest = left_alike old old' h.1 k.1 h.0 k.0 alike.bag first h.5 k.5 in
-      let during = acted h.0 k.0 h.1 k.1 acts told.0 told'.0 h.2 k.2 h.3 k.3 first rest (IsAmong-same values old (h.0 ∷ h.1) h.5 alike.among) wrote h.6 k.6 in
-      let after = ended h.2 k.2 h.3 k.3 end told.1 told'.1 new new' during.held during.rest during.among h.7 k.7 in
-      let seen = during.told in
-      let popped = after.0 in
-      record { replies = ap (λ s. Loaned (Some (s, told.1))) seen ∙ ap (λ p. Loaned (Some (told'.0, p))) popped; bag = after.1; among = after.2 }
-  loan_alike acts end old old' reply Refused new new' alike wrote fine fine' h k = absurd fine'
-  loan_alike acts end old old' Refused reply' new new' alike wrote fine fine' h k = absurd fine
-  loan_alike acts end old old' (Loaned told) reply' new new' alike wrote fine fine' h k = absurd k
-  loan_alike acts end old old' reply reply' new new' alike wrote fine fine' h k = absurd h
+  loaned : (acts : List (Act X)) (end : End) (old : List X) (told told' : List (Seen X) × Option X) (new new' : List X) → IsAmong values old → IsAmong values (written acts) → Step cmp calls old (Loan acts end) (Loaned (Some told)) new → Step cmp calls old (Loan acts end) (Loaned (Some told')) new' → StepsAlike (Loaned (Some told)) (Loaned (Some told')) new new'
+  loaned acts end old told told' new new' among wrote h k =
+      let first = one_front old h.0 k.0 h.4 k.4 in
+      let rest = same_rest old h.1 k.1 h.0 k.0 first h.5 k.5 in
+      let here = Acts-from cmp h.0 k.0 h.1 k.1 acts told'.0 k.2 k.3 first rest k.6 in
+      let begun = IsAmong-same values old (h.0 ∷ h.1) h.5 among in
+      let during = acted h.0 h.1 acts told.0 told'.0 h.2 k.2 h.3 k.3 begun wrote h.6 here in
+      let after = ended h.2 k.2 h.3 k.3 end told.1 told'.1 new new' during.held during.rest (Acts-among cmp values h.0 h.1 acts told.0 h.2 h.3 begun wrote h.6) h.7 k.7 in
+      record { replies = ap (λ s. Loaned (Some (s, told.1))) during.told ∙ ap (λ p. Loaned (Some (told'.0, p))) after.0; bag = after.1; among = after.2 }
 
-  steps_alike : (command : Command X P) (commands : List (Command X P)) (old old' : List X) (reply reply' : Reply X) (new new' : List X) → IsSettled command → IsAmong values (items_in (command ∷ commands)) → AreAlike cmp values old old' → IsUnrefused reply → IsUnrefused reply' → Step cmp calls old command reply new → Step cmp calls old' command reply' new' → StepsAlike reply reply' new new'
-  steps_alike (Push x) commands old old' reply reply' new new' settled brought alike fine fine' step step' =
-      let h = push_says x old reply new fine step in
-      let k = push_says x old' reply' new' fine' step' in
-      record {
-        replies = h.0 ∙ sym k.0;
-        bag = through (x ∷ old) (x ∷ old') new new' (IsPermutation-cons x old old' alike.bag) h.1 k.1;
-        among = IsAmong-same values (x ∷ old) new h.1 (IsAmong-cons values x old (brought x (Contains-first x (items_in commands))) alike.among);
-      }
-  steps_alike Pop commands old old' reply reply' new new' settled brought alike fine fine' step step' = pop_alike old old' reply reply' new new' alike step step'
-  steps_alike (PopIf p) commands old old' reply reply' new new' settled brought alike fine fine' step step' = absurd settled
-  steps_alike (Ask p) commands old old' reply reply' new new' settled brought alike fine fine' step step' = absurd settled
-  steps_alike Len commands old old' reply reply' new new' settled brought alike fine fine' step step' =
-      let h = len_says old reply new step in
-      let k = len_says old' reply' new' step' in
-      kept old old' reply reply' (Size (length old)) new new' alike h (k.0 ∙ ap Size (length_permutation old old' alike.bag), k.1)
-  steps_alike (Retain p) commands old old' reply reply' new new' settled brought alike fine fine' step step' = absurd settled
-  steps_alike (Extend xs) commands old old' reply reply' new new' settled brought alike fine fine' step step' =
-      let h = extend_says xs old reply new fine step in
-      let k = extend_says xs old' reply' new' fine' step' in
-      record {
-        replies = h.0 ∙ sym k.0;
-        bag = through (old ++ xs) (old' ++ xs) new new' (IsPermutation-append_left xs old old' alike.bag) h.1 k.1;
-        among = IsAmong-same values (old ++ xs) new h.1 (IsAmong-append values old xs alike.among (λ y in'. brought y (Contains-append_left xs (items_in commands) y in')));
-      }
-  steps_alike (Append other) commands old old' reply reply' new new' settled brought alike fine fine' step step' = absurd settled
-  steps_alike (Reserve n) commands old old' reply reply' new new' settled brought alike fine fine' step step' = kept old old' reply reply' Done new new' alike (reserve_says n old reply new fine step) (reserve_says n old' reply' new' fine' step')
-  steps_alike (Shrink n) commands old old' reply reply' new new' settled brought alike fine fine' step step' = kept old old' reply reply' Done new new' alike (shrink_says n old reply new fine step) (shrink_says n old' reply' new' fine' step')
-  steps_alike Clear commands old old' reply reply' new new' settled brought alike fine fine' step step' =
-      let h = clear_says old reply new step in
-      let k = clear_says old' reply' new' step' in
-      emptied reply reply' new new' (h.0 ∙ sym k.0) h.1 k.1
-  steps_alike (Drain k) commands old old' reply reply' new new' settled brought alike fine fine' step step' = absurd settled
-  steps_alike (DrainSorted n) commands old old' reply reply' new new' settled brought alike fine fine' step step' =
-      let h = drain_says n old reply new fine step in
-      let k = drain_says n old' reply' new' fine' step' in
-      emptied reply reply' new new' (h.1 ∙ ap Taken (popped_in_turn old old' n h.0 k.0 alike h.2 k.2) ∙ sym k.1) h.3 k.3
-  steps_alike (Loan acts end) commands old old' reply reply' new new' settled brought alike fine fine' step step' =
-      loan_alike acts end old old' reply reply' new new' alike (λ y in'. brought y (Contains-append_left (written acts) (items_in commands) y in')) fine fine' step step'
+  steps_alike : (command : Command X P) (commands : List (Command X P)) (old : List X) (reply reply' : Reply X) (new new' : List X) → IsSettled command → IsAmong values (items_in (command ∷ commands)) → IsAmong values old → IsUnrefused reply → IsUnrefused reply' → Step cmp calls old command reply new → Step cmp calls old command reply' new' → StepsAlike reply reply' new new'
+  steps_alike (Push x) commands old Pushed Pushed new new' settled brought among fine fine' h k =
+      listed (x ∷ old) Pushed Pushed new new' refl (IsAmong-cons values x old (brought x (Contains-first x (items_in commands))) among) h.0 k.0
+  steps_alike Pop commands old (Popped None) (Popped None) new new' settled brought among fine fine' h k = emptied _ _ new new' refl h.1 k.1
+  steps_alike Pop commands old (Popped None) (Popped (Some y)) new new' settled brought among fine fine' h k = absurd (let none = ap front h.0 in cc)
+  steps_alike Pop commands old (Popped (Some x)) (Popped None) new new' settled brought among fine fine' h k = absurd (let none = ap front k.0 in cc)
+  steps_alike Pop commands old (Popped (Some x)) (Popped (Some y)) new new' settled brought among fine fine' h k = popped old x y new new' among h k
+  steps_alike Len commands old (Size n) (Size m) new new' settled brought among fine fine' h k = listed old (Size n) (Size m) new new' (ap Size (h.0 ∙ sym k.0)) among h.1.bag k.1.bag
+  steps_alike (Extend xs) commands old Done Done new new' settled brought among fine fine' h k =
+      listed (old ++ xs) Done Done new new' refl (IsAmong-append values old xs among (λ y in'. brought y (Contains-append_left xs (items_in commands) y in'))) h.bag k.bag
+  steps_alike (Reserve n) commands old Done Done new new' settled brought among fine fine' h k = listed old Done Done new new' refl among h.bag k.bag
+  steps_alike (Shrink n) commands old Done Done new new' settled brought among fine fine' h k = listed old Done Done new new' refl among h.bag k.bag
+  steps_alike Clear commands old Done Done new new' settled brought among fine fine' h k = emptied Done Done new new' refl h k
+  steps_alike (DrainSorted n) commands old (Taken taken) (Taken taken') new new' settled brought among fine fine' h k = emptied _ _ new new' (ap Taken (popped_in_turn old n taken taken' among h.0 k.0)) h.1 k.1
+  steps_alike (Loan acts end) commands old (Loaned None) (Loaned None) new new' settled brought among fine fine' h k = emptied _ _ new new' refl h.1 k.1
+  steps_alike (Loan acts end) commands old (Loaned None) (Loaned (Some told)) new new' settled brought among fine fine' h k = absurd (let none = ap front h.0 in let some = k.4 in cc)
+  steps_alike (Loan acts end) commands old (Loaned (Some told)) (Loaned None) new new' settled brought among fine fine' h k = absurd (let none = ap front k.0 in let some = h.4 in cc)
+  steps_alike (Loan acts end) commands old (Loaned (Some told)) (Loaned (Some told')) new new' settled brought among fine fine' h k =
+      loaned acts end old told told' new new' among (λ y in'. brought y (Contains-append_left (written acts) (items_in commands) y in')) h k
+  steps_alike command commands old reply reply' new new' settled brought among fine fine' h k = search rules
 
   -- what the later commands bring is brought by all of them
   brought_later : (command : Command X P) (commands : List (Command X P)) → IsAmong values (items_in (command ∷ commands)) → IsAmong values (items_in commands)
@@ -269,27 +155,25 @@ module _ {X P : Type 0} {cmp : X → X → Ordering} (calls : P → X → Bool �
   brought_later (Loan acts end) commands h = λ y in'. h y (Contains-append_right (written acts) (items_in commands) y in')
   brought_later command commands h = h
 
-  runs_alike : (commands : List (Command X P)) (old old' : List X) (replies replies' : List (Reply X)) (states states' : List (List X)) → AllByRecursion IsSettled commands → IsAmong values (items_in commands) → AreAlike cmp values old old' → AllByRecursion IsUnrefused replies → AllByRecursion IsUnrefused replies' → Steps cmp calls old commands replies states → Steps cmp calls old' commands replies' states' → (replies ≡ replies') × IsSameBag (last_state old states) (last_state old' states')
-  runs_alike [] old old' [] [] [] [] settled brought alike fine fine' run run' = (refl, alike.bag)
-  runs_alike [] old old' [] replies' [] states' settled brought alike fine fine' run run' = absurd run'
-  runs_alike (command ∷ commands) old old' (reply ∷ replies) (reply' ∷ replies') (new ∷ states) (new' ∷ states') settled brought alike fine fine' run run' =
-      let here = steps_alike command commands old old' reply reply' new new' settled.0 brought alike fine.0 fine'.0 run.0 run'.0 in
-      let alike' : AreAlike cmp values new new' = record {
-        bag = here.bag;
-        first = Step-state calls total old command reply new alike.first run.0;
-        second = Step-state calls total old' command reply' new' alike.second run'.0;
-        among = here.among;
-      } in
-      let more = runs_alike commands new new' replies replies' states states' settled.1 (brought_later command commands brought) alike' fine.1 fine'.1 run.1 run'.1 in
+  runs_alike : (commands : List (Command X P)) (old old' : List X) (replies replies' : List (Reply X)) (states states' : List (List X)) → AllByRecursion IsSettled commands → IsAmong values (items_in commands) → IsAmong values old → IsState cmp old → IsSameState old old' → AllByRecursion IsUnrefused replies → AllByRecursion IsUnrefused replies' → Steps cmp calls old commands replies states → Steps cmp calls old' commands replies' states' → (replies ≡ replies') × IsSameBag (last_state old states) (last_state old' states')
+  runs_alike [] old old' [] [] [] [] settled brought among begun from fine fine' run run' = (refl, from.bag)
+  runs_alike (command ∷ commands) old old' (reply ∷ replies) (reply' ∷ replies') (new ∷ states) (new' ∷ states') settled brought among begun from fine fine' run run' =
+      let step = Step-same_state cmp calls command reply' old' old new' new' (turned old old' from) (same_state _ _ refl) run'.0 in
+      let here = steps_alike command commands old reply reply' new new' settled.0 brought among fine.0 fine'.0 run.0 step in
+      let state = Step-state calls total old command reply new begun run.0 in
+      let to = one_state new new' here.bag here.among state (Step-state calls total old command reply' new' begun step) in
+      let more = runs_alike commands new new' replies replies' states states' settled.1 (brought_later command commands brought) here.among state to fine.1 fine'.1 run.1 run'.1 in
       (ap (λ r. r ∷ replies) here.replies ∙ ap (λ rs. reply' ∷ rs) more.0, more.1)
-  runs_alike (command ∷ commands) old old' (reply ∷ replies) replies' (new ∷ states) states' settled brought alike fine fine' run run' = absurd run'
-  runs_alike commands old old' replies replies' states states' settled brought alike fine fine' run run' = absurd run
+  runs_alike commands old old' replies replies' states states' settled brought among begun from fine fine' run run' = search rules
 
 module _ {X P : Type 0} {cmp : X → X → Ordering} (calls : P → X → Bool → P → Type 0) (total : IsTotalOrder cmp) where
   pub same_replies : SameRepliesAtTwoArities cmp calls
   same_replies commands start start' replies replies' end end' settled same untied run run' =
-      let alike : AreAlike cmp (start ++ items_in commands) start start' = record { bag = same; first = run.begins; second = run'.begins; among = λ y in'. Contains-append_left start (items_in commands) y in' } in
-      let both = runs_alike calls total (start ++ items_in commands) untied commands start start' replies replies' run.states run'.states settled (λ y in'. Contains-append_right start (items_in commands) y in') alike run.unrefused run'.unrefused run.run run'.run in
+      let values = start ++ items_in commands in
+      let among : IsAmong values start = λ y in'. Contains-append_left start (items_in commands) y in' in
+      let brought : IsAmong values (items_in commands) = λ y in'. Contains-append_right start (items_in commands) y in' in
+      let from = one_state calls total values untied start start' same among run.begins run'.begins in
+      let both = runs_alike calls total values untied commands start start' replies replies' run.states run'.states settled brought among run.begins from run.unrefused run'.unrefused run.run run'.run in
       (both.0, subst (λ l. IsSameBag l end') run.ends (subst (IsSameBag (last_state start run.states)) run'.ends both.1))
 
 -- a run of the code in which nothing is refused is one of the machine

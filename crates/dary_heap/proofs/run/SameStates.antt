@@ -9,7 +9,7 @@ use Rattle.dary_heap.proofs.run.Serving.{nil_from_length}
 use Rattle.dary_heap.proofs.run.States.{IsState-same}
 
 module _ {X : Type 0} where
-  turned : (xs ys : List X) → IsSameState xs ys → IsSameState ys xs
+  pub turned : (xs ys : List X) → IsSameState xs ys → IsSameState ys xs
   turned xs ys h = record { bag = IsPermutation-sym xs ys h.bag; first = sym h.first }
 
   both : (xs ys zs : List X) → IsSameState xs ys → IsSameState ys zs → IsSameState xs zs
@@ -44,7 +44,7 @@ module _ {X P : Type 0} (cmp : X → X → Ordering) (calls : P → X → Bool �
   ended last left end given h = absurd h
 
 module _ {X P : Type 0} (cmp : X → X → Ordering) (calls : P → X → Bool → P → Type 0) where
-  in_turn : (old old' : List X) (k : ℕ) (taken : List X) → IsSameState old old' → PopsInTurn cmp old k taken → PopsInTurn cmp old' k taken
+  pub in_turn : (old old' : List X) (k : ℕ) (taken : List X) → IsSameState old old' → PopsInTurn cmp old k taken → PopsInTurn cmp old' k taken
   in_turn old old' zero taken from h = h
   in_turn old old' (suc k) [] from h = none old old' from h
   in_turn old old' (suc k) (m ∷ taken) from h = (h.0, popped cmp calls old old' h.0 h.0 from (same_state _ _ refl) m h.1, h.2)
