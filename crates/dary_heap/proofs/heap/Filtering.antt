@@ -89,14 +89,7 @@ picked-front (b ∷ bs) [] long = absurd (omega arith)
 picked-front (true ∷ bs) (x ∷ xs) long = ap (λ zs. x ∷ zs) (picked-front bs xs (omega arith))
 picked-front (false ∷ bs) (x ∷ xs) long = refl
 
--- no more are left than there were
-pub length-picked_most : {X : Type 0} (bs : List Bool) (xs : List X) → length (items_where_true bs xs) ≤ length xs
-length-picked_most [] [] = omega arith
-length-picked_most [] (x ∷ xs) = omega arith
-length-picked_most (b ∷ bs) [] = omega arith
-length-picked_most (true ∷ bs) (x ∷ xs) = omega (arith, length-picked_most bs xs)
-length-picked_most (false ∷ bs) (x ∷ xs) = omega (arith, length-picked_most bs xs)
-
+-- no fewer are left than come before the first that is left out
 pub length-picked : {X : Type 0} (bs : List Bool) (xs : List X) → length bs ≡ length xs → first_no bs ≤ length (items_where_true bs xs)
 length-picked [] [] long = omega arith
 length-picked [] (x ∷ xs) long = omega arith

@@ -1,19 +1,17 @@
 -- What one command of many asks of the caller, and what it brings in.
 use Rattle.std.proofs.Common.{◌≡◌, Bool, List, [], ◌∷◌, ◌++◌, All, Contains, refl, sym, ap, ◌∙◌, subst, append_assoc}
-use Rattle.std.proofs.lemmas.List.Elements.{All-nil, All-cons, All-head, All-tail, All-weaker, Contains-append_left, Contains-append_right}
+use Rattle.std.proofs.lemmas.List.Elements.{All-contains, All-contains_itself, All-weaker, Contains-append_left, Contains-append_right}
 use Rattle.std.specs.Fn.{Mut}
 use denote.Ref.{Bor}
 use Rattle.dary_heap.specs.Asking.{IsCallableOn, items_in, predicates_in, written}
 use Rattle.dary_heap.specs.Machine as machine
 use Rattle.dary_heap.specs.Machine.{Command}
 
-All-front : {X : Type 0} (Q : X → Type 0) (xs ys : List X) → All Q (xs ++ ys) → All Q xs
-All-front Q [] ys h = All-nil Q
-All-front Q (x ∷ xs) ys h = All-cons Q x xs (All-head Q x (xs ++ ys) h) (All-front Q xs ys (All-tail Q x (xs ++ ys) h))
-
-All-back : {X : Type 0} (Q : X → Type 0) (xs ys : List X) → All Q (xs ++ ys) → All Q ys
-All-back Q [] ys h = h
-All-back Q (x ∷ xs) ys h = All-back Q xs ys (All-tail Q x (xs ++ ys) h)
+-- what one of many gives is among what all give
+of_one : {A B : Type 0} (f : List A → List B) (joins : (xs ys : List A) → f (xs ++ ys) ≡ f xs ++ f ys) (before : List A) (one : A) (after : List A) (x : B) → Contains (f (one ∷ [])) x → Contains (f (before ++ (one ∷ after))) x
+of_one f joins before one after x in' =
+    let first = subst (λ xs. Contains xs x) (sym (joins (one ∷ []) after)) (Contains-append_left (f (one ∷ [])) (f after) x in') in
+    subst (λ xs. Contains xs x) (sym (joins before (one ∷ after))) (Contains-append_right (f before) _ x first)
 
 module _ {T P : Type 0} where
   items_in-append : (xs ys : List (Command T P)) → items_in (xs ++ ys) ≡ items_in xs ++ items_in ys
@@ -33,10 +31,7 @@ module _ {T P : Type 0} where
 
   -- the items of one command are among those of all
   pub items_of_one : (before : List (Command T P)) (command : Command T P) (after : List (Command T P)) (x : T) → Contains (items_in (command ∷ [])) x → Contains (items_in (before ++ (command ∷ after))) x
-  items_of_one before command after x in' =
-      subst (λ xs. Contains xs x) (sym (items_in-append before (command ∷ after)))
-      (Contains-append_right (items_in before) _ x
-      (subst (λ xs. Contains xs x) (sym (items_in-append (command ∷ []) after)) (Contains-append_left (items_in (command ∷ [])) (items_in after) x in')))
+  items_of_one before command after x in' = of_one items_in items_in-append before command after x in'
 
   module _ (calls : Mut P (Bor T × Unit {0}) Bool) where
     pub IsCallableOn-fewer : (pool items : List T) (p : P) → ((x : T) → Contains items x → Contains pool x) → IsCallableOn calls pool p → IsCallableOn calls items p
@@ -45,9 +40,6 @@ module _ {T P : Type 0} where
     -- the predicates of one command may be called where those of all may be
     pub callable_one : (pool items : List T) (before : List (Command T P)) (command : Command T P) (after : List (Command T P)) → ((x : T) → Contains items x → Contains pool x) → All (IsCallableOn calls pool) (predicates_in (before ++ (command ∷ after))) → All (IsCallableOn calls items) (predicates_in (command ∷ []))
     callable_one pool items before command after among h =
-        let split = predicates_in-append before (command ∷ after) in
-        let later = predicates_in-append (command ∷ []) after in
-        All-weaker (IsCallableOn calls pool) (IsCallableOn calls items) (λ p. IsCallableOn-fewer pool items p among) _
-        (All-front (IsCallableOn calls pool) (predicates_in (command ∷ [])) (predicates_in after)
-        (subst (All (IsCallableOn calls pool)) later
-        (All-back (IsCallableOn calls pool) (predicates_in before) _ (subst (All (IsCallableOn calls pool)) split h))))
+        let wanted = predicates_in (command ∷ []) in
+        let callable = λ (p : P) (in' : Contains wanted p). IsCallableOn-fewer pool items p among (All-contains (IsCallableOn calls pool) _ p h (of_one predicates_in predicates_in-append before command after p in')) in
+        All-weaker (Contains wanted) (IsCallableOn calls items) callable wanted (All-contains_itself wanted)

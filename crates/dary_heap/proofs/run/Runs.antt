@@ -15,32 +15,24 @@ last_state-more old new (state ∷ states) = last_state-more state new states
 module _ {T P : Type 0} (cmp : T → T → Ordering) (calls : P → T → Bool → P → Type 0) where
   Run-more : (old new : List T) (commands : List (Command T P)) (replies : List (Reply T)) (states : List (List T)) (command : Command T P) (reply : Reply T) → Steps cmp calls old commands replies states → Step cmp calls (last_state old states) command reply new → Steps cmp calls old (commands ++ command ∷ []) (replies ++ reply ∷ []) (states ++ new ∷ [])
   Run-more old new [] [] [] command reply run step = (step, tt)
-  Run-more old new [] [] (state ∷ states) command reply run step = absurd run
-  Run-more old new [] (r ∷ replies) states command reply run step = absurd run
-  Run-more old new (c ∷ commands) [] states command reply run step = absurd run
-  Run-more old new (c ∷ commands) (r ∷ replies) [] command reply run step = absurd run
   Run-more old new (c ∷ commands) (r ∷ replies) (state ∷ states) command reply run step = (run.0, Run-more state new commands replies states command reply run.1 step)
+  Run-more old new commands replies states command reply run step = absurd run
 
   charges-more : (D : ℕ) (old new : List T) (commands : List (Command T P)) (replies : List (Reply T)) (states : List (List T)) (command : Command T P) (reply : Reply T) → Steps cmp calls old commands replies states → charges D old (commands ++ command ∷ []) (replies ++ reply ∷ []) (states ++ new ∷ []) ≡ charges D old commands replies states + charge D (length (last_state old states)) command reply (length new)
   charges-more D old new [] [] [] command reply run = omega arith
-  charges-more D old new [] [] (state ∷ states) command reply run = absurd run
-  charges-more D old new [] (r ∷ replies) states command reply run = absurd run
-  charges-more D old new (c ∷ commands) [] states command reply run = absurd run
-  charges-more D old new (c ∷ commands) (r ∷ replies) [] command reply run = absurd run
   charges-more D old new (c ∷ commands) (r ∷ replies) (state ∷ states) command reply run = omega (arith, charges-more D state new commands replies states command reply run.1)
+  charges-more D old new commands replies states command reply run = absurd run
 
 module _ {T P : Type 0} where
   PushesServed-more : (sure : ℕ) (commands : List (Command T P)) (replies : List (Reply T)) (command : Command T P) (reply : Reply T) → length commands ≡ length replies → PushesServed sure commands replies → IsServed (sure_at_end sure commands replies) command reply → PushesServed sure (commands ++ command ∷ []) (replies ++ reply ∷ [])
   PushesServed-more sure [] [] command reply long served one = (one, tt)
-  PushesServed-more sure [] (r ∷ replies) command reply long served one = absurd (omega arith)
-  PushesServed-more sure (c ∷ commands) [] command reply long served one = absurd (omega arith)
   PushesServed-more sure (c ∷ commands) (r ∷ replies) command reply long served one = (served.0, PushesServed-more (sure_after sure c r) commands replies command reply (omega arith) served.1 one)
+  PushesServed-more sure commands replies command reply long served one = absurd (omega arith)
 
   sure_at_end-more : (sure : ℕ) (commands : List (Command T P)) (replies : List (Reply T)) (command : Command T P) (reply : Reply T) → length commands ≡ length replies → sure_at_end sure (commands ++ command ∷ []) (replies ++ reply ∷ []) ≡ sure_after (sure_at_end sure commands replies) command reply
   sure_at_end-more sure [] [] command reply long = refl
-  sure_at_end-more sure [] (r ∷ replies) command reply long = absurd (omega arith)
-  sure_at_end-more sure (c ∷ commands) [] command reply long = absurd (omega arith)
   sure_at_end-more sure (c ∷ commands) (r ∷ replies) command reply long = sure_at_end-more (sure_after sure c r) commands replies command reply (omega arith)
+  sure_at_end-more sure commands replies command reply long = absurd (omega arith)
 
   -- fewer pushes that are sure ask for less
   IsServed-fewer : (few many : ℕ) (command : Command T P) (reply : Reply T) → few ≤ many → IsServed many command reply → IsServed few command reply
@@ -49,10 +41,6 @@ module _ {T P : Type 0} where
 
   sure_after-fewer : (few many : ℕ) (command : Command T P) (reply : Reply T) → few ≤ many → sure_after few command reply ≤ sure_after many command reply
   sure_after-fewer few many (machine.Push x) reply h = omega arith
-  sure_after-fewer few many machine.Pop reply h = h
-  sure_after-fewer few many (machine.PopIf p) reply h = h
-  sure_after-fewer few many (machine.Ask p) reply h = h
-  sure_after-fewer few many machine.Len reply h = h
   sure_after-fewer few many (machine.Reserve n) machine.Done h = omega arith
   sure_after-fewer few many command reply h = omega arith
 

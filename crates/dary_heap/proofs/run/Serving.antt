@@ -3,9 +3,10 @@ use Rattle.std.proofs.Common.{◌≡◌, ℕ, ◌<◌, ◌≤◌, ◌↔◌, Boo
 use Rattle.std.specs.Cmp.{IsTotalOrder}
 use Rattle.std.specs.Fn.{Mut, Called, CalledAt, TakesAt}
 use Rattle.std.proofs.lemmas.Bool.{cases_lt}
-use Rattle.std.proofs.lemmas.List.Elements.{Contains-append_left, Contains-append_right}
+use Rattle.std.proofs.lemmas.List.{nil_from_length}
+use Rattle.std.proofs.lemmas.List.Elements.{Contains-append_left}
 use Rattle.std.proofs.lemmas.Option.{slice_get_within, get_or_from_slice_get}
-use Rattle.std.proofs.lemmas.List.Sorted.{IsPermutation-sym, IsPermutation-to_front, IsPermutation-trans, Contains-permutation, length_permutation}
+use Rattle.std.proofs.lemmas.List.Sorted.{IsPermutation-to_front, IsPermutation-trans, length_permutation}
 use Rattle.std.specs.declared.cmp.Ordering.{Ordering}
 use Rattle.dary_heap.specs.Asking.{IsCallableOn, items_in}
 use Rattle.dary_heap.specs.Bounds.{RisesWithin, push_bound, pop_bound}
@@ -14,22 +15,13 @@ use Rattle.dary_heap.specs.HeapOrder.{IsHeapOrdered}
 use Rattle.dary_heap.specs.Machine.{Command, Reply, Push, Pop, Ask, Pushed, PushRefused, Popped, Asked, Step}
 use Rattle.dary_heap.specs.Run.{IsServed, Serves, room, sure_after}
 use Rattle.dary_heap.specs.State.{front, front_with}
+use Rattle.dary_heap.proofs.Bags.{IsAmong, IsAmong-same, IsAmong-tail, has_none}
 use Rattle.dary_heap.proofs.Fronts.{alone, ordered_state, same_state}
 use Rattle.dary_heap.proofs.Order.{read}
-use Rattle.dary_heap.proofs.sift.Uncounted.{none_counted}
-
--- a list without items
-pub nil_from_length : {X : Type 0} (xs : List X) → length xs ≤ 0 → xs ≡ []
-nil_from_length [] h = refl
-nil_from_length (x ∷ xs) h = absurd (omega arith)
-
--- the items of a bag to which x was added
-added : {X : Type 0} (xs ys : List X) (x : X) → IsPermutation (x ∷ xs) ys → (y : X) → Contains ys y → Contains (xs ++ x ∷ []) y
-added xs ys x h y in' = Contains-permutation _ _ y (IsPermutation-sym _ _ (IsPermutation-trans _ _ _ (IsPermutation-to_front xs x) h)) in'
 
 -- the items of a bag from which m was taken
-pub rest_among : {X : Type 0} (xs ys : List X) (m : X) → IsPermutation xs (m ∷ ys) → (y : X) → Contains ys y → Contains (xs ++ []) y
-rest_among xs ys m h y in' = Contains-append_left xs [] y (Contains-permutation _ _ y (IsPermutation-sym _ _ h) (Contains-append_right (m ∷ []) ys y in'))
+pub rest_among : {X : Type 0} (xs ys : List X) (m : X) → IsPermutation xs (m ∷ ys) → IsAmong (xs ++ []) ys
+rest_among xs ys m h = IsAmong-tail _ m ys (IsAmong-same _ xs (m ∷ ys) h (Contains-append_left xs []))
 
 module _ {X P : Type 0} {cmp : X → X → Ordering} {calls : P → X → Bool → P → Type 0} {D : ℕ} where
   -- a step after which the items are those before
@@ -43,6 +35,10 @@ module _ {X P : Type 0} {cmp : X → X → Ordering} {calls : P → X → Bool �
     among = λ y in'. Contains-append_left old.items (items_in (command ∷ [])) y (subst (λ l. Contains l y) same in');
   }
 
+  -- a step that leaves all as it was
+  pub serves_same : (old new : Contents X) (command : Command X P) (reply : Reply X) → new ≡ old → IsHeapOrdered cmp D new.items → Step cmp calls old.items command reply old.items → IsServed (room old) command reply → sure_after (room old) command reply ≤ room old → Serves cmp calls D old command reply new
+  serves_same old new command reply same ordered step served sure = rw same (serves_unchanged old old command reply refl refl (subst (λ (it : Contents X). IsHeapOrdered cmp D it.items) same ordered) step served sure)
+
   pub pushed : (old new : Contents X) (x : X) → IsPermutation (x ∷ old.items) new.items → front new.items ≡ Some (front_with cmp x (front old.items)) → IsHeapOrdered cmp D new.items → RisesWithin old.comparisons new.comparisons (push_bound D (length old.items)) → old.capacity ≤ new.capacity → Serves cmp calls D old (Push x) Pushed new
   pushed old new x bag first ordered charged more = record {
     step = (bag, first);
@@ -50,30 +46,16 @@ module _ {X P : Type 0} {cmp : X → X → Ordering} {calls : P → X → Bool �
     served = λ some. refl;
     sure = omega (arith, length_permutation _ _ bag);
     ordered = ordered;
-    among = added old.items new.items x bag;
+    among = IsAmong-same _ (old.items ++ x ∷ []) new.items (IsPermutation-trans _ _ _ (IsPermutation-to_front old.items x) bag) (λ y in'. in');
   }
 
   pub push_refused : (old new : Contents X) (x y : X) → new ≡ old → y ≡ x → length old.items ≡ old.capacity → IsHeapOrdered cmp D new.items → Serves cmp calls D old (Push x) (PushRefused y) new
-  push_refused old new x y same back full ordered = rw same record {
-    step = (back, same_state _ _ refl);
-    charged = none_counted _ _;
-    served = λ some. absurd (omega arith);
-    sure = omega arith;
-    ordered = subst (λ (it : Contents X). IsHeapOrdered cmp D it.items) same ordered;
-    among = λ y in'. Contains-append_left old.items (x ∷ []) y in';
-  }
+  push_refused old new x y same back full ordered = serves_same old new (Push x) (PushRefused y) same ordered (back, same_state _ _ refl) (λ some. absurd (omega arith)) (omega arith)
 
   pub pops : IsTotalOrder cmp → (old new : Contents X) (r : Option X) → (IsSome r ↔ (0 < length old.items)) → r ≡ slice_get old.items 0 → IfSome r (λ m. IsPermutation old.items (m ∷ new.items)) → IsHeapOrdered cmp D new.items → RisesWithin old.comparisons new.comparisons (pop_bound D (length old.items)) → new.capacity ≡ old.capacity → IfNone r (new ≡ old) → Serves cmp calls D old Pop (Popped r) new
   pops total old new None variant first bag ordered charged same unchanged =
-      let none : old.items ≡ [] = elim (cases_lt 0 (length old.items)) [ inl some ↦ let given : false ≡ true = variant.1 some in cc | inr few ↦ nil_from_length old.items few ] in
-      rw unchanged record {
-        step = (none, none);
-        charged = none_counted _ _;
-        served = tt;
-        sure = omega arith;
-        ordered = subst (λ (it : Contents X). IsHeapOrdered cmp D it.items) unchanged ordered;
-        among = λ y in'. Contains-append_left old.items [] y in';
-      }
+      let none : old.items ≡ [] = has_none old.items (λ some. let given : false ≡ true = variant.1 some in cc) in
+      serves_same old new Pop (Popped None) unchanged ordered (none, none) tt (omega arith)
   pops total old new (Some m) variant first bag ordered charged same none = record {
     step = (sym first, bag, ordered_state total D new.items ordered);
     charged = charged;
@@ -82,12 +64,6 @@ module _ {X P : Type 0} {cmp : X → X → Ordering} {calls : P → X → Bool �
     ordered = ordered;
     among = rest_among old.items new.items m bag;
   }
-
-  answered : (heap : Contents X) (p : P) (m : X) (answer : Bool) (after : P) → calls p m answer after → front heap.items ≡ Some m → IsHeapOrdered cmp D heap.items → Serves cmp calls D heap (Ask p) (Asked (Some answer)) heap
-  answered heap p m answer after told first ordered = serves_unchanged heap heap (Ask p) (Asked (Some answer)) refl refl ordered ((m, first, (after, told)), same_state _ _ refl) tt (omega arith)
-
-  unasked : (heap : Contents X) (p : P) → heap.items ≡ [] → IsHeapOrdered cmp D heap.items → Serves cmp calls D heap (Ask p) (Asked None) heap
-  unasked heap p none ordered = serves_unchanged heap heap (Ask p) (Asked None) refl refl ordered (none, none) tt (omega arith)
 
 -- the one item of a list is among those that have it
 only : {X : Type 0} (items : List X) (x : X) → Contains items x → (y : X) → Contains (x ∷ []) y → Contains items y
@@ -112,7 +88,8 @@ module _ {X P : Type 0} (calls : Mut P (Bor X × Unit {0}) Bool) where
       | inl some ↦
           let first = read heap.items 0 some in
           let given = asked first.0 first.1 in
-          let called = told p first.0 given.0 given.1 in
-          rw given.2 (answered heap p first.0 given.0 called.0 called.1 first.1 ordered)
-      | inr few ↦ let gone = nil_from_length heap.items few in rw (none gone) (unasked heap p gone ordered)
+          rw given.2 (serves_same heap heap (Ask p) (Asked (Some given.0)) refl ordered ((first.0, first.1, told p first.0 given.0 given.1), same_state _ _ refl) tt (omega arith))
+      | inr few ↦
+          let gone = nil_from_length heap.items (omega arith) in
+          rw (none gone) (serves_same heap heap (Ask p) (Asked None) refl ordered (gone, gone) tt (omega arith))
     ]

@@ -1,6 +1,6 @@
 -- What a drain makes of a heap, from the contracts of the iterators.
 use Rattle.std.proofs.Common.{◌≡◌, ◌≢◌, ℕ, zero, suc, ◌+◌, ◌-◌, ◌<◌, ◌≤◌, min, Bool, List, [], ◌∷◌, ◌++◌, length, take, refl, sym, ap, ◌∙◌, subst, arith, Option, Some, None, IsSome, MatchOption}
-use Rattle.std.proofs.lemmas.List.{take_min}
+use Rattle.std.proofs.lemmas.List.{nil_from_length, take_min}
 use Rattle.std.specs.Cmp.{IsTotalOrder}
 use Rattle.std.specs.declared.cmp.Ordering.{Ordering}
 use Rattle.dary_heap.specs.Bounds.{RisesWithin, pops_bound}
@@ -12,7 +12,7 @@ use Rattle.dary_heap.specs.Run.{Serves}
 use Rattle.dary_heap.proofs.Fronts.{ordered_state, same_state}
 use Rattle.dary_heap.proofs.Order.{none_ordered, read}
 use Rattle.dary_heap.proofs.iter.Popping.{pops_bound_step}
-use Rattle.dary_heap.proofs.run.Serving.{nil_from_length, serves_unchanged}
+use Rattle.dary_heap.proofs.run.Serving.{serves_same}
 
 -- where some of the first k were wanted and there was no room for them, k is not 0 and there is an item
 wanted : {X : Type 0} (xs : List X) (k : ℕ) → (min k (length xs) ≡ 0 → ⊥) → (xs ≢ []) × (k ≢ 0)
@@ -61,10 +61,10 @@ popped_counted {D = D} old new x most pop h =
 
 module _ {X P : Type 0} {cmp : X → X → Ordering} {calls : P → X → Bool → P → Type 0} {D : ℕ} where
   pub drain_refused : (old : Contents X) (k : ℕ) → (min k (length old.items) ≡ 0 → ⊥) → IsHeapOrdered cmp D old.items → Serves cmp calls D old (Drain k) Refused old
-  drain_refused old k some ordered = let w = wanted old.items k some in serves_unchanged old old (Drain k) Refused refl refl ordered (w.0, w.1, same_state _ _ refl) tt (omega arith)
+  drain_refused old k some ordered = let w = wanted old.items k some in serves_same old old (Drain k) Refused refl ordered (w.0, w.1, same_state _ _ refl) tt (omega arith)
 
   pub sorted_refused : (old : Contents X) (k : ℕ) → (min k (length old.items) ≡ 0 → ⊥) → IsHeapOrdered cmp D old.items → Serves cmp calls D old (DrainSorted k) Refused old
-  sorted_refused old k some ordered = let w = wanted old.items k some in serves_unchanged old old (DrainSorted k) Refused refl refl ordered (w.0, w.1, same_state _ _ refl) tt (omega arith)
+  sorted_refused old k some ordered = let w = wanted old.items k some in serves_same old old (DrainSorted k) Refused refl ordered (w.0, w.1, same_state _ _ refl) tt (omega arith)
 
   pub drained : (old new : Contents X) (k : ℕ) (taken : List X) → taken ≡ take (min k (length old.items)) old.items → new.items ≡ [] → new.comparisons ≡ old.comparisons → Serves cmp calls D old (Drain k) (Taken taken) new
   drained old new k taken is none uncounted = record {

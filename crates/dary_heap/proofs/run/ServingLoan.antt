@@ -1,5 +1,6 @@
 -- What a loan makes of a heap, from the contracts of its calls.
 use Rattle.std.proofs.Common.{◌≡◌, ◌↔◌, ℕ, suc, ◌+◌, ◌-◌, ◌*◌, ◌<◌, ◌≤◌, Bool, true, false, List, [], ◌∷◌, ◌++◌, length, refl, sym, ap, ◌∙◌, subst, arith, Option, Some, None, IsTrue, slice_set, Contains}
+use Rattle.std.proofs.lemmas.List.{nil_from_length}
 use Rattle.std.proofs.lemmas.List.Elements.{Contains-append_left, Contains-append_right}
 use Rattle.std.proofs.lemmas.List.Sorted.{IsPermutation-refl, IsPermutation-sym, IsPermutation-trans, IsPermutation-cons, length_permutation}
 use Rattle.std.proofs.Math.Nat.{suc-mul}
@@ -19,7 +20,7 @@ use Rattle.dary_heap.proofs.Bags.{Contains-first, IsAmong, IsAmong-cons, IsAmong
 use Rattle.dary_heap.proofs.Cancelling.{IsPermutation-uncons}
 use Rattle.dary_heap.proofs.Depth.{times_depth-later}
 use Rattle.dary_heap.proofs.Fronts.{ordered_state, same_state}
-use Rattle.dary_heap.proofs.run.Serving.{nil_from_length, serves_unchanged}
+use Rattle.dary_heap.proofs.run.Serving.{serves_same}
 use Rattle.dary_heap.proofs.run.States.{HasGreater-same_bag}
 
 module _ {X : Type 0} (cmp : X → X → Ordering) where
@@ -141,10 +142,10 @@ module _ {X : Type 0} (cmp : X → X → Ordering) (D : ℕ) where
 module _ {X P : Type 0} {cmp : X → X → Ordering} {calls : P → X → Bool → P → Type 0} {D : ℕ} where
   -- there is no item to lend
   pub loan_of_none : (old : Contents X) (acts : List (Act X)) (end : End) → length old.items ≡ 0 → IsHeapOrdered cmp D old.items → Serves cmp calls D old (Loan acts end) (Loaned None) old
-  loan_of_none old acts end none ordered = let is = nil_from_length old.items (omega (arith, none)) in serves_unchanged old old (Loan acts end) (Loaned None) refl refl ordered (is, is) tt (omega arith)
+  loan_of_none old acts end none ordered = let is = nil_from_length old.items none in serves_same old old (Loan acts end) (Loaned None) refl ordered (is, is) tt (omega arith)
 
   pub loan_refused : (old : Contents X) (acts : List (Act X)) (end : End) → (length old.items ≡ 0 → ⊥) → (length acts ≡ 0 → ⊥) → IsHeapOrdered cmp D old.items → Serves cmp calls D old (Loan acts end) Refused old
-  loan_refused old acts end some wanted ordered = serves_unchanged old old (Loan acts end) Refused refl refl ordered ((λ e. some (ap length e)), (λ e. wanted (ap length e)), same_state _ _ refl) tt (omega arith)
+  loan_refused old acts end some wanted ordered = serves_same old old (Loan acts end) Refused refl ordered ((λ e. some (ap length e)), (λ e. wanted (ap length e)), same_state _ _ refl) tt (omega arith)
 
   -- what the loan leaves behind its reference is what the heap is then
   ended : (old mid end new : Contents X) (acts : List (Act X)) (seen : List (Seen X)) (kind : End) (given : Option X) (last_cost : ℕ) → new ≡ end → (h : IsLoan cmp D old mid end acts seen last_cost) → last_cost ≤ sink_bound D (length mid.items) → IsAmong mid.items end.items → Ends cmp h.acted.last h.acted.left kind given end.items → Serves cmp calls D old (Loan acts kind) (Loaned (Some (seen, given))) new

@@ -2,6 +2,8 @@
 use Rattle.std.proofs.Common.{◌≡◌, ℕ, suc, ◌-◌, ◌*◌, ◌≤◌, ◌==◌, ◌↔◌, if◌then◌else◌, max, min, Bool, true, false, List, [], ◌∷◌, ◌++◌, length, IsPermutation, Contains, refl, sym, ap, ◌∙◌, subst, arith, inl, inr, Option, Some, None, IfSome, IfNone, slice_get, length-append, append-nil}
 use Rattle.std.proofs.Math.Nat.{mul-le-mul_right}
 use Rattle.std.proofs.lemmas.Bool.{cases_lt}
+use Rattle.std.proofs.lemmas.Grind.{get_or_picked}
+use Rattle.std.proofs.lemmas.List.{nil_from_length}
 use Rattle.std.proofs.lemmas.List.Elements.{Contains-append_left, Contains-append_right, Contains-append_cases}
 use Rattle.std.proofs.lemmas.List.Sorted.{IsPermutation-sym, Contains-permutation, length_permutation}
 use borrow.Author.Tests.{eqb-true, eqb-false}
@@ -19,14 +21,14 @@ use Rattle.dary_heap.specs.Contents.{Contents}
 use Rattle.dary_heap.specs.Extending.{IsExtended}
 use Rattle.dary_heap.specs.Filtering.{IsRetained, first_no}
 use Rattle.dary_heap.specs.HeapOrder.{IsHeapOrdered, depth}
-use Rattle.dary_heap.specs.Machine.{PopIf, Retain, Extend, Append, Clear, Popped, Done, ExtendRefused, AppendRefused}
+use Rattle.dary_heap.specs.Machine.{Reply, Step, PopIf, Retain, Extend, Append, Clear, Popped, Done, ExtendRefused, AppendRefused}
 use Rattle.dary_heap.specs.Run.{Serves}
 use Rattle.dary_heap.specs.State.{IsJoined, front}
+use Rattle.dary_heap.proofs.Bags.{IsAmong, IsAmong-append, IsAmong-same}
 use Rattle.dary_heap.proofs.heap.Filtering.{few_picked}
 use Rattle.dary_heap.proofs.Fronts.{ordered_state, same_state}
 use Rattle.dary_heap.proofs.Order.{none_ordered, read}
-use Rattle.dary_heap.proofs.run.Serving.{Told, nil_from_length, rest_among, told}
-use Rattle.dary_heap.proofs.sift.Uncounted.{none_counted}
+use Rattle.dary_heap.proofs.run.Serving.{Told, rest_among, serves_same, told}
 
 -- taking in fewer items costs no more
 fewer : (D n j k : ℕ) (b c : Bool) → (j == 0) ≡ b → (k == 0) ≡ c → j ≤ k → (if b then 0 else max (build_bound D n) (j * depth D (n - 1))) ≤ (if c then 0 else max (build_bound D n) (k * depth D (n - 1)))
@@ -39,27 +41,20 @@ mend_bound-fewer D n j k h = fewer D n j k (j == 0) (k == 0) refl refl h
 
 -- what was picked was there
 pub Contains-picked : {X : Type 0} (bs : List Bool) (xs : List X) (x : X) → Contains (items_where_true bs xs) x → Contains xs x
-Contains-picked [] xs x in' = absurd (omega (arith, in'.1))
-Contains-picked (b ∷ bs) [] x in' = absurd (omega (arith, in'.1))
-Contains-picked (true ∷ bs) (y ∷ xs) x in' = elim (Contains-append_cases (y ∷ []) (items_where_true bs xs) x in') [
-  | inl first ↦ Contains-append_left (y ∷ []) xs x first
-  | inr later ↦ Contains-append_right (y ∷ []) xs x (Contains-picked bs xs x later)
-]
-Contains-picked (false ∷ bs) (y ∷ xs) x in' = Contains-append_right (y ∷ []) xs x (Contains-picked bs xs x in')
+Contains-picked bs xs x in' = let from = (get_or_picked bs xs in'.0 x in'.1).1 in (from.0, from.1, sym from.2 ∙ in'.2)
 
 -- items that come in behind others, all of them or a beginning
-front_of_both : {X : Type 0} (xs ys all left : List X) (x : X) → all ≡ ys ++ left → Contains (xs ++ ys) x → Contains (xs ++ (all ++ [])) x
-front_of_both xs ys all left x split in' = elim (Contains-append_cases xs ys x in') [
-  | inl first ↦ Contains-append_left xs (all ++ []) x first
-  | inr later ↦ Contains-append_right xs (all ++ []) x (subst (λ l. Contains l x) (sym (append-nil all)) (subst (λ l. Contains l x) (sym split) (Contains-append_left ys left x later)))
-]
+came_behind : {X : Type 0} (xs ys all left new : List X) → all ≡ ys ++ left → IsSameBag (xs ++ ys) new → IsAmong (xs ++ (all ++ [])) new
+came_behind {X} xs ys all left new split bag =
+    let behind = λ (x : X) (in' : Contains ys x). Contains-append_right xs (all ++ []) x (Contains-append_left all [] x (subst (λ l. Contains l x) (sym split) (Contains-append_left ys left x in'))) in
+    IsAmong-same _ (xs ++ ys) new bag (IsAmong-append _ xs ys (Contains-append_left xs (all ++ [])) behind)
 
 -- where all are picked, each answer was yes
 none_removed : {X : Type 0} (bs : List Bool) (xs : List X) → length bs ≡ length xs → items_where_true bs xs ≡ xs → first_no bs ≡ length bs
 none_removed [] xs all same = refl
-none_removed (b ∷ bs) [] all same = absurd (omega arith)
 none_removed (true ∷ bs) (x ∷ xs) all same = let rest : items_where_true bs xs ≡ xs = (cc) in ap suc (none_removed bs xs (omega arith) rest)
-none_removed (false ∷ bs) (x ∷ xs) all same = absurd (let whole : length (items_where_true bs xs) ≡ length (x ∷ xs) = ap length same in omega (arith, whole, few_picked bs xs))
+none_removed (false ∷ bs) (x ∷ xs) all same = absurd (omega (arith, ap length same, few_picked bs xs))
+none_removed (b ∷ bs) [] all same = absurd (omega arith)
 
 module _ {X : Type 0} {cmp : X → X → Ordering} {D : ℕ} (total : IsTotalOrder cmp) where
   joined : (old new : Contents X) (xs : List X) → IsExtended cmp D old xs new → IsJoined cmp old.items xs new.items
@@ -79,15 +74,21 @@ module _ {X P : Type 0} {cmp : X → X → Ordering} {calls : P → X → Bool �
         among = λ x in'. Contains-append_left old.items [] x (Contains-picked h.answers old.items x (Contains-permutation new.items kept x (IsPermutation-sym kept new.items h.bag) in'));
       }
 
-  pub extended : (old new : Contents X) (xs : List X) → IsExtended cmp D old xs new → Serves cmp calls D old (Extend xs) Done new
-  extended old new xs h = record {
-    step = joined total old new xs h;
+  came_in : (old new : Contents X) (all xs left : List X) (reply : Reply X) → all ≡ xs ++ left → IsExtended cmp D old xs new → Step cmp calls old.items (Extend all) reply new.items → Serves cmp calls D old (Extend all) reply new
+  came_in old new all xs left reply split h step = record {
+    step = step;
     charged = h.counted;
     served = tt;
     sure = omega arith;
     ordered = h.ordered;
-    among = λ x in'. front_of_both old.items xs xs [] x (sym (append-nil xs)) (Contains-permutation new.items (old.items ++ xs) x (IsPermutation-sym (old.items ++ xs) new.items h.bag) in');
+    among = came_behind old.items xs all left new.items split h.bag;
   }
+
+  pub extended : (old new : Contents X) (xs : List X) → IsExtended cmp D old xs new → Serves cmp calls D old (Extend xs) Done new
+  extended old new xs h = came_in old new xs xs [] Done (sym (append-nil xs)) h (joined total old new xs h)
+
+  pub extend_refused : (old new : Contents X) (all xs : List X) (x : X) (left : List X) → all ≡ xs ++ (x ∷ left) → IsExtended cmp D old xs new → Serves cmp calls D old (Extend all) ExtendRefused new
+  extend_refused old new all xs x left split h = came_in old new all xs (x ∷ left) ExtendRefused split h (xs, x ∷ left, split, omega arith, joined total old new xs h)
 
   pub cleared : (old new : Contents X) → new.items ≡ [] → new.comparisons ≡ old.comparisons → Serves cmp calls D old Clear Done new
   cleared old new none same = record {
@@ -99,16 +100,6 @@ module _ {X P : Type 0} {cmp : X → X → Ordering} {calls : P → X → Bool �
     among = λ x in'. absurd (let here : Contains [] x = subst (λ l. Contains l x) none in' in omega (arith, here.1));
   }
 
-  pub extend_refused : (old new : Contents X) (all xs : List X) (x : X) (left : List X) → all ≡ xs ++ (x ∷ left) → IsExtended cmp D old xs new → Serves cmp calls D old (Extend all) ExtendRefused new
-  extend_refused old new all xs x left split h = record {
-    step = (xs, x ∷ left, split, omega arith, joined total old new xs h);
-    charged = h.counted;
-    served = tt;
-    sure = omega arith;
-    ordered = h.ordered;
-    among = λ y in'. front_of_both old.items xs all (x ∷ left) y split (Contains-permutation new.items (old.items ++ xs) y (IsPermutation-sym (old.items ++ xs) new.items h.bag) in');
-  }
-
   pub appended : (old new : Contents X) (other : List X) → IsSameBag (old.items ++ other) new.items → (other ≡ [] → new.items ≡ old.items) → IsHeapOrdered cmp D new.items → RisesWithin old.comparisons new.comparisons (mend_bound D (length new.items) (min (length old.items) (length other))) → Serves cmp calls D old (Append other) Done new
   appended old new other bag same_items ordered counted =
       let more : length other ≡ length new.items - length old.items = omega (arith, length_permutation _ _ bag, length-append old.items other) in
@@ -118,18 +109,11 @@ module _ {X P : Type 0} {cmp : X → X → Ordering} {calls : P → X → Bool �
         served = tt;
         sure = omega arith;
         ordered = ordered;
-        among = λ x in'. front_of_both old.items other other [] x (sym (append-nil other)) (Contains-permutation new.items (old.items ++ other) x (IsPermutation-sym (old.items ++ other) new.items bag) in');
+        among = came_behind old.items other other [] new.items (sym (append-nil other)) bag;
       }
 
   pub append_refused : (old new : Contents X) (other back : List X) → new ≡ old → back ≡ other → IsHeapOrdered cmp D new.items → Serves cmp calls D old (Append other) (AppendRefused back) new
-  append_refused old new other back same returned ordered = rw same record {
-    step = (same_state other back returned, same_state _ _ refl);
-    charged = none_counted _ _;
-    served = tt;
-    sure = omega arith;
-    ordered = subst (λ (it : Contents X). IsHeapOrdered cmp D it.items) same ordered;
-    among = λ x in'. Contains-append_left old.items (other ++ []) x in';
-  }
+  append_refused old new other back same returned ordered = serves_same old new (Append other) (AppendRefused back) same ordered (same_state other back returned, same_state _ _ refl) tt (omega arith)
 
 -- first what a vector's iterator gave, then what it still has
 pub taken_front : {X A : Type 0} (s : IntoIter X A) (xs : List X) (t : IntoIter X A) → Yields into_iter_steps s xs t → into_iter_items s ≡ xs ++ into_iter_items t
@@ -151,22 +135,14 @@ module _ {X P : Type 0} (calls : Mut P (Bor X × Unit {0}) Bool) (once : (p : P)
   told_no p item false h e = told calls once p item false h
 
   pub pops_where : {cmp : X → X → Ordering} {D : ℕ} → IsTotalOrder cmp → (old new : Contents X) (p : P) (r : Option X) → ((item : X) → slice_get old.items 0 ≡ Some item → (answer : Bool) × Told calls p item answer × (r ≡ (if answer then Some item else None))) → IfSome r (IsGreatest cmp old.items) → IfSome r (λ m. IsPermutation old.items (m ∷ new.items)) → IsHeapOrdered cmp D new.items → RisesWithin old.comparisons new.comparisons (pop_bound D (length old.items)) → new.capacity ≡ old.capacity → IfNone r (new ≡ old) → Serves cmp (CalledAt calls) D old (PopIf p) (Popped r) new
-  pops_where {cmp = cmp} {D = D} total old new p None asked greatest bag ordered charged same unchanged =
-      let still = subst (λ (it : Contents X). IsHeapOrdered cmp D it.items) unchanged ordered in
-      rw unchanged record {
-        step = elim (cases_lt 0 (length old.items)) [
-          | inl some ↦
-              let first = read old.items 0 some in
-              let answer = asked first.0 first.1 in
-              inr ((first.0, first.1, told_no p first.0 answer.0 answer.1 answer.2), same_state _ _ refl)
-          | inr few ↦ inl (nil_from_length old.items few, nil_from_length old.items few)
-        ];
-        charged = none_counted _ _;
-        served = tt;
-        sure = omega arith;
-        ordered = still;
-        among = λ y in'. Contains-append_left old.items [] y in';
-      }
+  pops_where total old new p None asked greatest bag ordered charged same unchanged =
+      serves_same old new (PopIf p) (Popped None) unchanged ordered (elim (cases_lt 0 (length old.items)) [
+        | inl some ↦
+            let first = read old.items 0 some in
+            let answer = asked first.0 first.1 in
+            inr ((first.0, first.1, told_no p first.0 answer.0 answer.1 answer.2), same_state _ _ refl)
+        | inr few ↦ let none = nil_from_length old.items (omega arith) in inl (none, none)
+      ]) tt (omega arith)
   pops_where {D = D} total old new p (Some m) asked greatest bag ordered charged same none =
       let first = read old.items 0 (omega (arith, greatest.occurs.1)) in
       let answer = asked first.0 first.1 in

@@ -1,5 +1,5 @@
 use Rattle.std.proofs.Common.{◌≡◌, List, [], ◌∷◌, ◌++◌, length, map, All, Contains, sym, ap, ◌∙◌, subst, arith, rules, inl, inr, append_assoc, append-nil, length-append}
-use Rattle.std.proofs.lemmas.List.{map-append, length-map}
+use Rattle.std.proofs.lemmas.List.{map-append, length-map, nil_from_length}
 use Rattle.std.proofs.lemmas.List.Elements.{Contains-append_left, Contains-append_right, Contains-append_cases}
 use Rattle.std.specs.Vec.Iter.{into_iter_items}
 use Rattle.dary_heap.specs.Asking.{IsCallableOn, items_in, predicates_in}
@@ -7,7 +7,6 @@ use Rattle.dary_heap.specs.Reading as read
 use Rattle.dary_heap.proofs.run.Asking.{callable_one, items_of_one}
 use Rattle.dary_heap.proofs.Fronts.{ordered_state}
 use Rattle.dary_heap.proofs.run.Runs.{Runs-begins, Runs-more}
-use Rattle.dary_heap.proofs.run.Serving.{nil_from_length}
 use Rattle.dary_heap.proofs.run.run.Goals as goal
 
 -- what was read of a list of commands, where one of them stands

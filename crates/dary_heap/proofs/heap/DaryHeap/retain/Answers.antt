@@ -3,7 +3,7 @@ use Rattle.std.specs.List.{items_where_true}
 use Rattle.dary_heap.specs.Bounds.{RisesWithin, mend_bound}
 use Rattle.dary_heap.specs.Filtering.{first_no}
 use Rattle.dary_heap.specs.HeapOrder.{IsHeapOrdered}
-use Rattle.dary_heap.proofs.heap.Filtering.{picked-all, picked-front, length-picked, length-picked_most, first_no-within}
+use Rattle.dary_heap.proofs.heap.Filtering.{picked-all, picked-front, length-picked, few_picked, first_no-within}
 use Rattle.dary_heap.proofs.sift.Tail.{front-ordered}
 use Rattle.dary_heap.proofs.sift.Written.{written_back, same_contents}
 use Rattle.dary_heap.proofs.heap.DaryHeap.retain.Goals as goal
@@ -64,4 +64,4 @@ returns-clause-len g c =
     let zs = c.mend_with.new.items in
     let all : length zs ≡ c.keep-start.new.items.len = omega arith in
     let long : length c.as_mut_slice.result.now ≡ length zs = omega arith in
-    rw (← c.self.view_is) (rw (written_back _ zs _ all) (omega (arith, long, ap length (c.as_mut_slice.ensures.value ∙ k.4), length-picked_most k.0 xs)))
+    rw (← c.self.view_is) (rw (written_back _ zs _ all) (omega (arith, long, ap length (c.as_mut_slice.ensures.value ∙ k.4), few_picked k.0 xs)))
