@@ -9,21 +9,10 @@ returns-in_default g c =
     let wanted : min c.args.count (length c.args.heap.now.items) ≡ 0 → ⊥ = λ none. (let e : c.min-count.result ≡ 0 = omega (arith, c.min-count.ensures, c.len.ensures.len, none) in let r = c.in_default.ensures.succeeds e in cc) in
     drain_refused c.args.heap.now c.args.count wanted c.len.ensures.ordered
 
-pub loop-init : goal.loop-init
-loop-init g c = record {
-  parts = sym (ap (λ xs. xs ++ drain_rest c.drain-rest.result) c.in-Ok.ensures.items);
-  long = omega (arith, c.in-Ok.ensures.len);
-  within = omega arith;
-  space = omega (arith, c.in-Ok.ensures.capacity);
-}
-
 pub unwrap-requires : goal.unwrap-requires
 unwrap-requires g c =
     let before = c.loop.invariant in
     first_given c.next.result (drain_rest c.loop.rest) (drain_rest c.next.new.self) c.next.ensures.steps (omega (arith, c.loop-test.true, c.min-count.ensures, c.len.ensures.len, ap length c.drain-rest.ensures.items, ap length before.parts, length-append c.loop.taken.items (drain_rest c.loop.rest), before.long))
-
-pub push_reserved-requires : goal.push_reserved-requires
-push_reserved-requires g c = omega (arith, c.loop-test.true, c.loop.invariant.long, c.loop.invariant.space)
 
 pub loop-preserved : goal.loop-preserved
 loop-preserved g c =

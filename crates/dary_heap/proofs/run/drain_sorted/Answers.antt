@@ -11,25 +11,10 @@ returns-in_default g c =
     let wanted : min c.args.count (length c.args.heap.now.items) ≡ 0 → ⊥ = λ none. (let e : c.min-count.result ≡ 0 = omega (arith, c.min-count.ensures, c.len.ensures.len, none) in let r = c.in_default.ensures.succeeds e in cc) in
     sorted_refused c.args.heap.now c.args.count wanted c.len.ensures.ordered
 
-pub loop-init : goal.loop-init
-loop-init g c = record {
-  through = subst (λ xs. PopsThrough g.T.Ord.cmp (drained_heap c.drain_sorted-items.result).items xs (drained_heap c.drain_sorted-items.result).items) (sym c.in-Ok.ensures.items) refl;
-  parts = omega (arith, ap length c.in-Ok.ensures.items);
-  long = omega (arith, c.in-Ok.ensures.len);
-  within = omega arith;
-  space = omega (arith, c.in-Ok.ensures.capacity);
-  rises = omega arith;
-  counted = omega arith;
-  same_reference = refl;
-}
-
 pub unwrap-requires : goal.unwrap-requires
 unwrap-requires g c =
     let before = c.loop.invariant in
     popped_some (drained_heap c.loop.items) (drained_heap c.next.new.self) c.next.result c.next.ensures.steps.0 (omega (arith, c.loop-test.true, c.min-count.ensures, c.len.ensures.len, ap (λ (it : Contents g.row.T.Denot). length it.items) c.drain_sorted-items.ensures.heap, before.parts, before.long))
-
-pub push_reserved-requires : goal.push_reserved-requires
-push_reserved-requires g c = omega (arith, c.loop-test.true, c.loop.invariant.long, c.loop.invariant.space)
 
 pub loop-preserved : goal.loop-preserved
 loop-preserved g c =

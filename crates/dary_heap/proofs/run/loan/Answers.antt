@@ -18,11 +18,6 @@ pub returns-then-is_empty : goal.returns-then-is_empty
 returns-then-is_empty g c =
     loan_of_none c.args.heap.now (read.acts c.args.acts.items) (read.ending c.args.end) (eqb-true _ 0 (sym c.if-is_empty.ensures.empty)) c.if-is_empty.ensures.ordered
 
-pub unwrap-loan-requires : goal.unwrap-loan-requires
-unwrap-loan-requires g c =
-    let some : length c.args.heap.now.items ≡ 0 → ⊥ = λ none. eqb-false _ 0 (sym c.if-is_empty.ensures.empty) none in
-    c.peek_mut.ensures.variant.1 (omega (arith, some))
-
 pub returns-in_default : goal.returns-in_default
 returns-in_default g c =
     let wanted : length (read.acts c.args.acts.items) ≡ 0 → ⊥ = λ none. (let e : c.len.result ≡ 0 = omega (arith, c.len.ensures, length-map c.args.acts.items read.act, none) in let r = c.in_default.ensures.succeeds e in cc) in

@@ -23,6 +23,3 @@ returns g c =
         runs_back = runs_back drain_rest;
       },
     )
-
-pub invariant_of-self-lent : goal.invariant_of-self-lent
-invariant_of-self-lent g c = λ w. none_ordered _ (none_written _ _ (ap (λ (v : Vec g.row.T.Denot Global). vec_len v) c.replace-items.ensures.after ∙ c.new.ensures.len))

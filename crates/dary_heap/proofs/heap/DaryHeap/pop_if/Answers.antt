@@ -15,17 +15,3 @@ returns-else-predicate-clause-asked g c = λ item is.
     let first : Some shown.now ≡ Some item = c.in_ok-peek.ensures.first ∙ is in
     let same : shown.now ≡ item = (cc) in
     (false, (shown, c.if-predicate.ensures, same), refl)
-
-pub returns-then-predicate-clause-shown : goal.returns-then-predicate-clause-shown
-returns-then-predicate-clause-shown g c = λ item is.
-    let shown = c.in_ok-peek.field-0 in
-    let first : Some shown.now ≡ Some item = c.in_ok-peek.ensures.first ∙ is in
-    let same : shown.now ≡ item = (cc) in
-    subst (IsGreatest g.T.Ord.cmp c.args.self.now.items) same c.in_ok-peek.ensures.greatest
-
-pub returns-else-predicate-clause-shown : goal.returns-else-predicate-clause-shown
-returns-else-predicate-clause-shown g c = λ item is.
-    let shown = c.in_ok-peek.field-0 in
-    let first : Some shown.now ≡ Some item = c.in_ok-peek.ensures.first ∙ is in
-    let same : shown.now ≡ item = (cc) in
-    subst (IsGreatest g.T.Ord.cmp c.args.self.now.items) same c.in_ok-peek.ensures.greatest

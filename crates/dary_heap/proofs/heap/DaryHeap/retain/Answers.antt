@@ -8,9 +8,6 @@ use Rattle.dary_heap.proofs.sift.Tail.{front-ordered}
 use Rattle.dary_heap.proofs.sift.Written.{written_back, same_contents}
 use Rattle.dary_heap.proofs.heap.DaryHeap.retain.Goals as goal
 
-pub keep-start-requires : goal.keep-start-requires
-keep-start-requires g c = rw (← c.self.view_is) at c.requires
-
 pub mend_with-requires : goal.mend_with-requires
 mend_with-requires g c =
     let k = c.keep-start.ensures.kept in

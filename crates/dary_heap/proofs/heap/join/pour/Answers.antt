@@ -24,8 +24,3 @@ loop-rest-preserved g c =
       omega (arith, c.push_reserved.ensures.len, ran.holds.1, length-append ran.seen (x ∷ [])),
       omega (arith, c.push_reserved.ensures.capacity, ran.holds.2),
     )
-
-pub returns-clause-came : goal.returns-clause-came
-returns-clause-came g c =
-    let ran = c.loop-rest.invariant in
-    (ran.seen, ran.holds.0, ran.holds.1, (ran.gave, ran.callable, ran.ending, ran.counted))

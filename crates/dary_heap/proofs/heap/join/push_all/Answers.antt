@@ -5,12 +5,6 @@ use Rattle.std.specs.Bool.{OnFalse}
 use Rattle.dary_heap.proofs.heap.Extending.{came_both, ran_dry, ran_on}
 use Rattle.dary_heap.proofs.heap.join.push_all.Goals as goal
 
-pub loop-rest-init : goal.loop-rest-init
-loop-rest-init g c = begun c.requires.0 c.requires.1 (sym (append-nil _), omega arith, omega arith)
-
-pub replace_with-left-requires : goal.replace_with-left-requires
-replace_with-left-requires g c = (c.loop-rest.invariant.callable, c.loop-rest.invariant.ending)
-
 pub returns-then-ended-clause-came : goal.returns-then-ended-clause-came
 returns-then-ended-clause-came g c =
     let ran = c.loop-rest.invariant in
@@ -41,14 +35,6 @@ returns-in_err-make_room-clause-came g c =
         full = omega (arith, full, c.replace_with-left.ensures.1.1, came.2, ran.holds.1, ran.holds.2, length-append ran.seen came.0);
       },
     )
-
-pub loop-rest-smaller : goal.loop-rest-smaller
-loop-rest-smaller g c =
-    let ran = c.loop-rest.invariant in
-    let came = c.replace_with-left.ensures.0 in
-    let gave = if_no _ _ c.if-ended.false came.3 in
-    let on = ran_on g.I.Iterator.remaining ran came.0 _ {Q = λ _. Unit {0}} gave tt in
-    omega (arith, gave.3, less on c.in-Some.element c.in-Some.is c.next.ensures.goes)
 
 pub loop-rest-preserved : goal.loop-rest-preserved
 loop-rest-preserved g c =

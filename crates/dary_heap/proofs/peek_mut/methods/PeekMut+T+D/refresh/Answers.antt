@@ -1,5 +1,6 @@
 use Rattle.std.proofs.Common.{rules, refl, ap, ◌≡◌, ◌∙◌, List, ◌++◌, length, take, arith}
 use Rattle.dary_heap.specs.Contents.{Contents}
+use Rattle.dary_heap.specs.HeapOrder.{IsHeapOrdered}
 use Rattle.std.proofs.lemmas.List.Sorted.{IsPermutation-refl, length_permutation}
 use Rattle.dary_heap.proofs.sift.BelowRoot.{below_root}
 use Rattle.dary_heap.proofs.Fronts.{ordered_state}
@@ -27,77 +28,42 @@ returns-then-not-self g c =
       alone = λ one. refl;
     }
 
-pub returns-clause-moved : goal.returns-clause-moved
-returns-clause-moved g c =
-    let zs = c.sink_with-moved.new.items in
-    let is = c.as_mut_slice.ensures.value in
-    let lent = c.args.self.now.lent in
-    sunk_moved g.row.D c.args.self.now.items.items zs _ (rw is at c.sink_with-moved.ensures.moved) (rw is at c.sink_with-moved.ensures.unchanged) g.met.T.Ord.total ((rw is at c.sink_with-moved.ensures.ordered) lent.below_root)
-
-pub returns-clause-greatest : goal.returns-clause-greatest
-returns-clause-greatest g c =
-    let zs = c.sink_with-moved.new.items in
-    let long = c.args.self.now.items.ok.0 in
-    let all : length zs ≡ c.args.self.now.items.len = omega arith in
-    let is = c.as_mut_slice.ensures.value in
-    rw (written_back _ zs _ all) (ordered_state g.met.T.Ord.total g.row.D zs ((rw is at c.sink_with-moved.ensures.ordered) c.args.self.now.lent.below_root))
-
-pub returns-clause-alone : goal.returns-clause-alone
-returns-clause-alone g c = λ one.
-    let xs = c.args.self.now.items.items in
-    let zs = c.sink_with-moved.new.items in
-    let long = c.args.self.now.items.ok.0 in
-    let all : length zs ≡ c.args.self.now.items.len = omega arith in
-    let is = c.as_mut_slice.ensures.value in
-    let still = sunk_unmoved g.row.D xs zs _ (rw is at c.sink_with-moved.ensures.moved) (rw is at c.sink_with-moved.ensures.unchanged) (lone_unexceeded g.T.Ord.cmp xs one) in
-    same_contents _ _ (written_back _ zs _ all ∙ still) refl (lone_uncounted g.row.D (length xs) _ _ one (rw is at c.sink_with-moved.ensures.counted) ∙ ap (λ (it : Contents g.row.T.Denot). it.comparisons) c.heap.view_is)
-
 -- the loan's vector holds what the sink left
 written : (g : _) (c : goal.After-self-2-1 g) (ws : List g.row.T.Denot) → take c.args.self.now.items.len (c.sink_with-moved.new.items ++ ws) ≡ c.sink_with-moved.new.items
 written g c ws =
     let long = c.args.self.now.items.ok.0 in
-    let all : length c.sink_with-moved.new.items ≡ c.args.self.now.items.len = omega arith in
-    written_back _ c.sink_with-moved.new.items ws all
+    written_back _ c.sink_with-moved.new.items ws (omega arith)
+
+-- a heap
+ordered : (g : _) (c : goal.After-self-2-1 g) → IsHeapOrdered g.T.Ord.cmp g.row.D c.sink_with-moved.new.items
+ordered g c = (rw c.as_mut_slice.ensures.value at c.sink_with-moved.ensures.ordered) c.args.self.now.lent.below_root
+
+pub returns-clause-moved : goal.returns-clause-moved
+returns-clause-moved g c =
+    let is = c.as_mut_slice.ensures.value in
+    sunk_moved g.row.D c.args.self.now.items.items c.sink_with-moved.new.items _ (rw is at c.sink_with-moved.ensures.moved) (rw is at c.sink_with-moved.ensures.unchanged) g.met.T.Ord.total (ordered g c)
+
+pub returns-clause-greatest : goal.returns-clause-greatest
+returns-clause-greatest g c = rw (written g c _) (ordered_state g.met.T.Ord.total g.row.D _ (ordered g c))
+
+pub returns-clause-alone : goal.returns-clause-alone
+returns-clause-alone g c = λ one.
+    let xs = c.args.self.now.items.items in
+    let is = c.as_mut_slice.ensures.value in
+    let still = sunk_unmoved g.row.D xs c.sink_with-moved.new.items _ (rw is at c.sink_with-moved.ensures.moved) (rw is at c.sink_with-moved.ensures.unchanged) (lone_unexceeded g.T.Ord.cmp xs one) in
+    same_contents _ _ (written g c _ ∙ still) refl (lone_uncounted g.row.D (length xs) _ _ one (rw is at c.sink_with-moved.ensures.counted) ∙ ap (λ (it : Contents g.row.T.Denot). it.comparisons) c.heap.view_is)
 
 pub invariant_of-self : goal.invariant_of-self
 invariant_of-self g c =
-    let zs = c.sink_with-moved.new.items in
     let is = c.as_mut_slice.ensures.value in
     let ordered = (rw is at c.sink_with-moved.ensures.ordered) c.args.self.now.lent.below_root in
-    let as_many : length zs ≡ length c.args.self.now.items.items = length_permutation _ _ (rw is at c.sink_with-moved.ensures.bag) in
+    let as_many = length_permutation _ _ (rw is at c.sink_with-moved.ensures.bag) in
     let long = c.args.self.now.items.ok.0 in
-    let all : length zs ≡ c.args.self.now.items.len = omega arith in
-    record { lent = rw (written_back _ zs _ all) record { some = omega (arith, c.args.self.now.lent.some); below_root = below_root g.row.D zs ordered; whole = λ settled. ordered } }
+    let all : length c.sink_with-moved.new.items ≡ c.args.self.now.items.len = omega arith in
+    record { lent = rw (written_back _ _ _ all) record { some = omega (arith, as_many, c.args.self.now.lent.some); below_root = below_root g.row.D _ ordered; whole = λ settled. ordered } }
 
 pub returns-clause-bag : goal.returns-clause-bag
 returns-clause-bag g c = rw (written g c _) (rw c.as_mut_slice.ensures.value at c.sink_with-moved.ensures.bag)
 
-pub returns-clause-ordered : goal.returns-clause-ordered
-returns-clause-ordered g c = rw (written g c _) ((rw c.as_mut_slice.ensures.value at c.sink_with-moved.ensures.ordered) c.args.self.now.lent.below_root)
-
-pub returns-clause-counted : goal.returns-clause-counted
-returns-clause-counted g c = rw (← c.heap.view_is) (rw c.as_mut_slice.ensures.value at c.sink_with-moved.ensures.counted)
-
-pub returns-clause-tight : goal.returns-clause-tight
-returns-clause-tight g c = rw (← c.heap.view_is) (rw c.as_mut_slice.ensures.value at c.sink_with-moved.ensures.tight)
-
-pub returns-clause-unwritten : goal.returns-clause-unwritten
-returns-clause-unwritten g c = λ unwritten. let is = c.if-not-self.false in cc
-
-pub invariant_of-heap : goal.invariant_of-heap
-invariant_of-heap g c = c.heap.invariant
-
 pub returns-clause-len : goal.returns-clause-len
 returns-clause-len g c = length_permutation _ _ (returns-clause-bag g c)
-
-pub returns-clause-capacity : goal.returns-clause-capacity
-returns-clause-capacity g c = refl
-
-pub returns-clause-same_reference : goal.returns-clause-same_reference
-returns-clause-same_reference g c = refl
-
-pub returns-clause-settled : goal.returns-clause-settled
-returns-clause-settled g c = refl
-
-pub returns-clause-unmoved : goal.returns-clause-unmoved
-returns-clause-unmoved g c = rw (written g c _) (rw c.as_mut_slice.ensures.value at c.sink_with-moved.ensures.unchanged)

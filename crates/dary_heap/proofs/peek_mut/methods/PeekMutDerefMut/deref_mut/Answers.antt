@@ -12,14 +12,6 @@ returns g c =
       record { writes_back = tt; first = slice_get_read xs (length xs) 0 c.index_mut.result.now refl loan.lent.some c.index_mut.ensures.value },
     )
 
-pub index_mut-requires : goal.index_mut-requires
-index_mut-requires g c = rw c.args.self.now.items.ok.0 c.args.self.now.lent.some
-
-pub invariant_of-self : goal.invariant_of-self
-invariant_of-self g c =
-    let lent = c.args.self.now.lent in
-    record { lent = record { some = lent.some; below_root = lent.below_root; whole = λ settled. absurd (cc) } }
-
 pub invariant_of-self-lent : goal.invariant_of-self-lent
 invariant_of-self-lent g c =
     let loan = c.args.self.now in
