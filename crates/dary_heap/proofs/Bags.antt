@@ -1,8 +1,5 @@
 -- What a bag holds once a value came to it. A bag from which one was taken is read the other way round.
-use Rattle.std.proofs.Common.{◌≡◌, ◌⊎◌, ◌<◌, List, [], ◌∷◌, ◌++◌, length, set, IsPermutation, Contains, Some, slice_get, inl, inr, refl, subst, arith}
-use Rattle.std.proofs.lemmas.List.Elements.{Contains-append_right, Contains-append_cases}
-use Rattle.std.proofs.lemmas.List.Sorted.{IsPermutation-sym, IsPermutation-cons, IsPermutation-to_front, Contains-permutation}
-use Rattle.dary_heap.specs.Bag.{IsSameBag}
+use Rattle.dary_heap.proofs.Common.{◌≡◌, ◌⊎◌, ◌<◌, List, [], ◌∷◌, ◌++◌, length, set, IsPermutation, Contains, Some, slice_get, inl, inr, refl, subst, arith, Contains-append_right, Contains-append_cases, IsPermutation-sym, IsPermutation-cons, IsPermutation-to_front, Contains-permutation, IsSameBag}
 use Rattle.dary_heap.proofs.Fronts.{alone}
 
 -- an item of a list is its first or one of the others

@@ -1,14 +1,7 @@
 -- A greatest item bounds the others, in std's word for it.
-use Rattle.std.proofs.Common.{◌≡◌, ◌≢◌, false, List, [], ◌∷◌, Contains, Option, Some, None, IfSome, refl, ap, ◌∙◌}
-use Rattle.std.proofs.lemmas.List.Sorted.{IsPermutation-sym}
+use Rattle.dary_heap.proofs.Common.{◌≡◌, ◌≢◌, false, List, [], ◌∷◌, Contains, Option, Some, None, IfSome, refl, ap, ◌∙◌, IsPermutation-sym, IsTotalOrder, AllByRecursion, is_lt, ordering_reverse, Ordering, Less, Equal, Greater, IsSameBag, IsGreatest}
 use Rattle.std.specs.BinaryHeap.{IsUpperBound}
 use Rattle.std.specs.Borrow.{Bor}
-use Rattle.std.specs.Cmp.{IsTotalOrder}
-use Rattle.std.specs.List.{AllByRecursion}
-use Rattle.std.specs.Ordering.{is_lt, ordering_reverse}
-use Rattle.std.specs.declared.cmp.Ordering.{Ordering}
-use Rattle.std.specs.declared.cmp.Ordering.TheVariants.{Less, Equal, Greater}
-use Rattle.dary_heap.specs.Bag.{IsSameBag, IsGreatest}
 use Rattle.dary_heap.proofs.Bags.{Contains-first, Contains-later, came_later}
 
 by_recursion : {X : Type 0} (P : X → Type 0) (xs : List X) → ((y : X) → Contains xs y → P y) → AllByRecursion P xs

@@ -1,8 +1,5 @@
 -- Predicates that may be called on anything, as most closures may: for them a caller cites these lemmas.
-use Rattle.std.proofs.Common.{Bool, List, [], ◌∷◌, All}
-use Rattle.std.specs.Fn.{Mut}
-use denote.Ref.{Bor}
-use Rattle.dary_heap.specs.Asking.{TakesInTurn, IsCallableOn}
+use Rattle.dary_heap.proofs.Common.{Bool, List, [], ◌∷◌, All, Mut, Bor, TakesInTurn, IsCallableOn}
 
 module _ {T P : Type 0} (calls : Mut P (Bor T × Unit {0}) Bool) where
   -- such a predicate may be asked about one item after another

@@ -1,15 +1,9 @@
 -- What proofs of callers of std's heap have, of this one: heap order at arity 2, places in descending order, room for what an iterator gives, and an outcome whose error was mapped.
-use Rattle.std.proofs.Common.{◌≡◌, ◌≢◌, ℕ, zero, suc, ◌+◌, ◌≤◌, false, List, [], ◌∷◌, get_or, slice_get, Option, Some, Result, Ok, Err, OnOk, is_ok, sym, ap, ◌∙◌, subst, arith, length-append}
+use Rattle.dary_heap.proofs.Common.{◌≡◌, ◌≢◌, ℕ, zero, suc, ◌+◌, ◌≤◌, false, List, [], ◌∷◌, get_or, slice_get, Option, Some, Result, Ok, Err, sym, ap, ◌∙◌, subst, arith, length-append, get_or_from_slice_get, slice_get_within, IsTotalOrder, is_lt, ordering_reverse, Ordering, Less, Equal, Greater, parent, IsHeapOrdered, IsDescending}
+use Rattle.std.proofs.Common.{OnOk, is_ok}
 use Rattle.std.proofs.lemmas.Iterator.Adapters.{YieldsAtMost}
-use Rattle.std.proofs.lemmas.Option.{get_or_from_slice_get, slice_get_within}
 use Rattle.std.specs.BinaryHeap.{IsHeap}
-use Rattle.std.specs.Cmp.{IsTotalOrder}
-use Rattle.std.specs.Ordering.{is_lt, ordering_reverse}
-use Rattle.std.specs.declared.cmp.Ordering.{Ordering}
-use Rattle.std.specs.declared.cmp.Ordering.TheVariants.{Less, Equal, Greater}
 use Rattle.dary_heap.specs.Extending.{IsRefusedAfter}
-use Rattle.dary_heap.specs.HeapOrder.{parent, IsHeapOrdered}
-use Rattle.dary_heap.specs.Popping.{IsDescending}
 use Rattle.dary_heap.proofs.Bounded.{not_less}
 use Rattle.dary_heap.proofs.Order.{read, not_greater-self}
 

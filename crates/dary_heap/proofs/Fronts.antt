@@ -1,16 +1,5 @@
 -- Which item is the first once an item came in.
-use Rattle.std.proofs.Common.{◌≡◌, ◌≢◌, ℕ, inl, inr, zero, suc, ◌<◌, List, [], ◌∷◌, ◌++◌, length, refl, sym, ap, ◌∙◌, subst, arith, Some, slice_get, Contains, IsPermutation, if◌then◌else◌, length-append}
-use Rattle.std.proofs.lemmas.Bool.{cases_eq}
-use Rattle.std.proofs.lemmas.Option.{slice_get_within}
-use Rattle.std.proofs.lemmas.List.Elements.{Contains-append_cases, Contains-push}
-use Rattle.std.proofs.lemmas.List.Sorted.{IsPermutation-refl, IsPermutation-sym, Contains-permutation, length_permutation}
-use Rattle.std.specs.Cmp.{IsTotalOrder}
-use Rattle.std.specs.Ordering.{is_gt}
-use Rattle.std.specs.declared.cmp.Ordering.{Ordering}
-use Rattle.std.specs.declared.cmp.Ordering.TheVariants.{Less, Equal, Greater}
-use Rattle.dary_heap.specs.HeapOrder.{IsHeapOrdered}
-use Rattle.dary_heap.specs.Sifting.{StaysFirst}
-use Rattle.dary_heap.specs.State.{IsState, IsSameState, front, front_with}
+use Rattle.dary_heap.proofs.Common.{◌≡◌, ◌≢◌, ℕ, inl, inr, zero, suc, ◌<◌, List, [], ◌∷◌, ◌++◌, length, refl, sym, ap, ◌∙◌, subst, arith, Some, slice_get, Contains, IsPermutation, if◌then◌else◌, length-append, cases_eq, slice_get_within, Contains-append_cases, Contains-push, IsPermutation-refl, IsPermutation-sym, Contains-permutation, length_permutation, IsTotalOrder, is_gt, Ordering, Less, Equal, Greater, IsHeapOrdered, StaysFirst, IsState, IsSameState, front, front_with}
 use Rattle.dary_heap.proofs.Exchange.{Exchanges, slice_get-append}
 use Rattle.dary_heap.proofs.Order.{first_is_greatest, not_greater-trans, read}
 

@@ -4,6 +4,7 @@ pub mod Bounded
 pub mod Callable
 pub mod Callers
 pub mod Cancelling
+pub mod Common
 pub mod Depth
 pub mod Exchange
 pub mod FromStd

@@ -1,6 +1,5 @@
 -- Clones that give the same value.
-use Rattle.std.proofs.Common.{◌≡◌, List, [], ◌∷◌, Contains, refl, arith}
-use Rattle.std.proofs.lemmas.List.Elements.{Contains-append_right}
+use Rattle.dary_heap.proofs.Common.{◌≡◌, List, [], ◌∷◌, Contains, refl, arith, Contains-append_right}
 use Rattle.std.specs.List.{AllZip}
 
 -- a list of clones, each of which gives the same value

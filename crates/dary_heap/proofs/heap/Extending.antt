@@ -1,15 +1,7 @@
 -- Items that come in one after another.
-use Rattle.std.proofs.Common.{◌≡◌, ℕ, ◌+◌, ◌-◌, ◌≤◌, List, [], ◌∷◌, ◌++◌, length, map, refl, sym, ap, ◌∙◌, subst, arith, Option, None, append-nil, append_assoc, length-append}
-use Rattle.std.proofs.iter.Next.{Ran}
-use Rattle.std.proofs.lemmas.List.{map-append}
+use Rattle.dary_heap.proofs.Common.{◌≡◌, ℕ, ◌+◌, ◌-◌, ◌≤◌, List, [], ◌∷◌, ◌++◌, length, map, refl, sym, ap, ◌∙◌, subst, arith, Option, None, append-nil, append_assoc, length-append, Ran, map-append, EndsFrom, items_left, Yields, Ordering, IsSameBag, RisesWithin, mend_bound, Contents, IsExtended, IsHeapOrdered}
 use Rattle.core.proofs.iter.runs.Lists.{Yields-both}
-use Rattle.std.specs.Iterator.{Count, EndsFrom, items_left, IsFinite, size, Yields, YieldsThen, Drains}
-use Rattle.std.specs.declared.cmp.Ordering.{Ordering}
-use Rattle.dary_heap.specs.Bag.{IsSameBag}
-use Rattle.dary_heap.specs.Bounds.{RisesWithin, mend_bound}
-use Rattle.dary_heap.specs.Contents.{Contents}
-use Rattle.dary_heap.specs.Extending.{IsExtended}
-use Rattle.dary_heap.specs.HeapOrder.{IsHeapOrdered}
+use Rattle.std.specs.Iterator.{Count, IsFinite, size, YieldsThen, Drains}
 
 -- what an iterator gave before its last item
 pub Yields-front : {S A : Type 0} (steps : S → Option A → S → Type 0) (s : S) (xs : List A) (x : A) (u : S) → Yields steps s (xs ++ x ∷ []) u → (t : S) × Yields steps s xs t

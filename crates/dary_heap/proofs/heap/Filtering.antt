@@ -1,14 +1,6 @@
 -- A predicate that is asked about the items of a list, one after another.
-use Rattle.std.proofs.Common.{◌≡◌, ◌≢◌, ℕ, zero, suc, ◌+◌, ◌<◌, ◌≤◌, Bool, true, false, List, [], ◌∷◌, ◌++◌, length, get_or, refl, sym, ap, ◌∙◌, subst, arith, Some, slice_get, take, drop}
-use Rattle.std.proofs.lemmas.List.{take_more}
-use Rattle.std.proofs.lemmas.Option.{slice_get_within, get_or_from_slice_get}
-use Rattle.std.specs.Fn.{Mut, TakesAt, CalledAt}
-use denote.Ref.{Bor}
-use Rattle.std.specs.List.{items_where_true}
-use Rattle.std.specs.List.Retain.{ReturnsInTurn}
+use Rattle.dary_heap.proofs.Common.{◌≡◌, ◌≢◌, ℕ, zero, suc, ◌+◌, ◌<◌, ◌≤◌, Bool, true, false, List, [], ◌∷◌, ◌++◌, length, get_or, refl, sym, ap, ◌∙◌, subst, arith, Some, slice_get, take, drop, take_more, slice_get_within, get_or_from_slice_get, Mut, TakesAt, CalledAt, Bor, items_where_true, ReturnsInTurn, TakesInTurn, first_no}
 use Rattle.std.proofs.Retain.{answers_push, picked_push_true}
-use Rattle.dary_heap.specs.Asking.{TakesInTurn}
-use Rattle.dary_heap.specs.Filtering.{first_no}
 use Rattle.dary_heap.proofs.Exchange.{Exchanges}
 
 -- one item more, by the answer for it

@@ -1,13 +1,5 @@
 -- The items of a heap whose first is on loan, and what sifting it down tells of them.
-use Rattle.std.proofs.Common.{◌≡◌, ◌↔◌, ℕ, zero, suc, ◌+◌, ◌-◌, ◌*◌, ◌<◌, ◌≤◌, Bool, true, false, List, [], ◌∷◌, length, refl, sym, ap, ◌∙◌, subst, arith, Some, IsTrue, slice_get, Contains}
-use Rattle.std.proofs.lemmas.List.Elements.{Contains-append_right}
-use Rattle.std.proofs.lemmas.Option.{slice_get_within, get_or_from_slice_get}
-use Rattle.std.specs.Bool.{OnFalse}
-use Rattle.std.specs.Cmp.{IsTotalOrder}
-use Rattle.std.specs.declared.cmp.Ordering.{Ordering}
-use Rattle.dary_heap.specs.Bounds.{RisesWithin, sink_bound}
-use Rattle.dary_heap.specs.HeapOrder.{arity, depth, IsHeapOrdered, HasGreaterChild}
-use Rattle.dary_heap.specs.Loan.{IsExceeded}
+use Rattle.dary_heap.proofs.Common.{◌≡◌, ◌↔◌, ℕ, zero, suc, ◌+◌, ◌-◌, ◌*◌, ◌<◌, ◌≤◌, Bool, true, false, List, [], ◌∷◌, length, refl, sym, ap, ◌∙◌, subst, arith, Some, IsTrue, slice_get, Contains, Contains-append_right, slice_get_within, get_or_from_slice_get, OnFalse, IsTotalOrder, Ordering, RisesWithin, sink_bound, arity, depth, IsHeapOrdered, HasGreaterChild, IsExceeded}
 use Rattle.dary_heap.proofs.Depth.{depth-zero}
 use Rattle.dary_heap.proofs.Order.{first_is_greatest}
 

@@ -1,11 +1,6 @@
 -- What one command of many asks of the caller, and what it brings in.
-use Rattle.std.proofs.Common.{◌≡◌, Bool, List, [], ◌∷◌, ◌++◌, All, Contains, refl, sym, ap, ◌∙◌, subst, append_assoc}
-use Rattle.std.proofs.lemmas.List.Elements.{All-contains, All-contains_itself, All-weaker, Contains-append_left, Contains-append_right}
-use Rattle.std.specs.Fn.{Mut}
-use denote.Ref.{Bor}
-use Rattle.dary_heap.specs.Asking.{IsCallableOn, items_in, predicates_in, written}
+use Rattle.dary_heap.proofs.Common.{◌≡◌, Bool, List, [], ◌∷◌, ◌++◌, All, Contains, refl, sym, ap, ◌∙◌, subst, append_assoc, All-contains, All-contains_itself, All-weaker, Contains-append_left, Contains-append_right, Mut, Bor, IsCallableOn, items_in, predicates_in, written, Command}
 use Rattle.dary_heap.specs.Machine as machine
-use Rattle.dary_heap.specs.Machine.{Command}
 
 -- what one of many gives is among what all give
 of_one : {A B : Type 0} (f : List A → List B) (joins : (xs ys : List A) → f (xs ++ ys) ≡ f xs ++ f ys) (before : List A) (one : A) (after : List A) (x : B) → Contains (f (one ∷ [])) x → Contains (f (before ++ (one ∷ after))) x

@@ -1,12 +1,8 @@
 -- A run goes on by one command.
-use Rattle.std.proofs.Common.{◌≡◌, ℕ, ◌+◌, ◌≤◌, Bool, List, [], ◌∷◌, ◌++◌, length, refl, ap, arith}
-use Rattle.std.specs.declared.cmp.Ordering.{Ordering}
-use Rattle.dary_heap.specs.Bounds.{charge, charges}
-use Rattle.dary_heap.specs.Contents.{Contents}
+use Rattle.dary_heap.proofs.Common.{◌≡◌, ℕ, ◌+◌, ◌≤◌, Bool, List, [], ◌∷◌, ◌++◌, length, refl, ap, arith, Ordering, charge, Contents, Command, Reply, Step, Steps, last_state, IsState, IsServed, Runs, Serves, room, sure_after}
+use Rattle.dary_heap.specs.Bounds.{charges}
 use Rattle.dary_heap.specs.Machine as machine
-use Rattle.dary_heap.specs.Machine.{Command, Reply, Step, Steps, last_state}
-use Rattle.dary_heap.specs.State.{IsState}
-use Rattle.dary_heap.specs.Run.{IsServed, PushesServed, Runs, Serves, room, sure_after, sure_at_end}
+use Rattle.dary_heap.specs.Run.{PushesServed, sure_at_end}
 
 last_state-more : {T : Type 0} (old new : List T) (states : List (List T)) → last_state old (states ++ new ∷ []) ≡ new
 last_state-more old new [] = refl

@@ -1,18 +1,5 @@
 -- Without ties, questions and refusals, two runs from the same bag give the same replies and leave the same bag: their states are the same ones, and so both may be read from the first.
-use Rattle.std.proofs.Common.{◌≡◌, ◌≢◌, ℕ, zero, suc, Bool, true, false, List, [], ◌∷◌, ◌++◌, length, refl, sym, ap, ◌∙◌, subst, arith, rules, inl, inr, Option, Some, None, Contains}
-use Rattle.std.specs.List.{AllByRecursion}
-use Rattle.std.specs.Cmp.{IsTotalOrder}
-use Rattle.std.specs.Ordering.{ordering_reverse}
-use Rattle.std.specs.declared.cmp.Ordering.{Ordering}
-use Rattle.std.specs.declared.cmp.Ordering.TheVariants.{Less, Equal, Greater}
-use Rattle.std.proofs.lemmas.List.Elements.{Contains-append_left, Contains-append_right, Contains-append_cases}
-use Rattle.std.proofs.lemmas.List.Sorted.{IsPermutation-refl, IsPermutation-sym, IsPermutation-trans, IsPermutation-cons, Contains-permutation, length_permutation}
-use Rattle.dary_heap.specs.Asking.{items_in, written}
-use Rattle.dary_heap.specs.Bag.{IsSameBag, IsGreatest, IsGreatest-same_bag}
-use Rattle.dary_heap.specs.Machine.{Act, Write, Refresh, End, PutBack, TakeOut, Seen, Old, Changed, Command, Reply, Push, Pop, PopIf, Ask, Len, Retain, Extend, Append, Reserve, Shrink, Clear, Drain, DrainSorted, Loan, Pushed, PushRefused, Popped, Size, Done, ExtendRefused, Refused, Taken, Loaned, Acts, Ends, Pops, PopsInTurn, Step, Steps, last_state}
-use Rattle.dary_heap.specs.Contents.{Contents}
-use Rattle.dary_heap.specs.Run.{Runs}
-use Rattle.dary_heap.specs.State.{IsState, IsSameState, front}
+use Rattle.dary_heap.proofs.Common.{◌≡◌, ◌≢◌, ℕ, zero, suc, Bool, true, false, List, [], ◌∷◌, ◌++◌, length, refl, sym, ap, ◌∙◌, subst, arith, rules, inl, inr, Option, Some, None, Contains, AllByRecursion, IsTotalOrder, ordering_reverse, Ordering, Less, Equal, Greater, Contains-append_left, Contains-append_right, Contains-append_cases, IsPermutation-refl, IsPermutation-sym, IsPermutation-trans, IsPermutation-cons, Contains-permutation, length_permutation, items_in, written, IsSameBag, IsGreatest, IsGreatest-same_bag, Act, Write, Refresh, End, PutBack, TakeOut, Seen, Old, Changed, Command, Reply, Push, Pop, PopIf, Ask, Len, Retain, Extend, Append, Reserve, Shrink, Clear, Drain, DrainSorted, Loan, Pushed, PushRefused, Popped, Size, Done, ExtendRefused, Refused, Taken, Loaned, Acts, Ends, Pops, PopsInTurn, Step, Steps, last_state, Contents, Runs, IsState, IsSameState, front}
 use Rattle.dary_heap.specs.TwoArities.{HasNoTies, IsSettled, IsUnrefused, RunsUnrefused, SameRepliesAtTwoArities}
 use Rattle.dary_heap.proofs.Bags.{Contains-first, IsAmong, IsAmong-cons, IsAmong-tail, IsAmong-append, IsAmong-same}
 use Rattle.dary_heap.proofs.Cancelling.{IsPermutation-uncons}

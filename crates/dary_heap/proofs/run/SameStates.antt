@@ -1,10 +1,6 @@
 -- Of a state no step reads more than its bag and its front: the order of the list behind the first item is free.
-use Rattle.std.proofs.Common.{◌≡◌, ◌≢◌, ℕ, zero, suc, Bool, false, List, [], ◌∷◌, length, refl, sym, ap, ◌∙◌, arith, inl, inr, Option, Some, None}
-use Rattle.std.specs.declared.cmp.Ordering.{Ordering}
-use Rattle.std.proofs.lemmas.List.{nil_from_length}
-use Rattle.std.proofs.lemmas.List.Sorted.{IsPermutation-sym, IsPermutation-trans, IsPermutation-cons, IsPermutation-append_left, length_permutation}
-use Rattle.dary_heap.specs.Machine.{End, PutBack, TakeOut, Command, Reply, Push, Pop, PopIf, Ask, Len, Retain, Extend, Append, Reserve, Shrink, Clear, Drain, DrainSorted, Loan, Pushed, PushRefused, Popped, Asked, Size, Done, ExtendRefused, AppendRefused, Refused, Taken, Loaned, Ends, MayAnswer, Pops, PopsInTurn, Step}
-use Rattle.dary_heap.specs.State.{IsSameState, IsJoined, front_with}
+use Rattle.dary_heap.proofs.Common.{◌≡◌, ◌≢◌, ℕ, zero, suc, Bool, false, List, [], ◌∷◌, length, refl, sym, ap, ◌∙◌, arith, inl, inr, Option, Some, None, Ordering, nil_from_length, IsPermutation-sym, IsPermutation-trans, IsPermutation-cons, IsPermutation-append_left, length_permutation, End, PutBack, TakeOut, Command, Reply, Push, Pop, PopIf, Ask, Len, Retain, Extend, Append, Reserve, Shrink, Clear, Drain, DrainSorted, Loan, Pushed, PushRefused, Popped, Asked, Size, Done, ExtendRefused, AppendRefused, Refused, Taken, Loaned, Ends, Pops, PopsInTurn, Step, IsSameState, IsJoined, front_with}
+use Rattle.dary_heap.specs.Machine.{MayAnswer}
 use Rattle.dary_heap.proofs.Fronts.{same_state}
 use Rattle.dary_heap.proofs.run.States.{IsState-same}
 

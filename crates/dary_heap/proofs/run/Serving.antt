@@ -1,20 +1,6 @@
 -- What one command makes of a heap, from the contract of the call that carries it out.
-use Rattle.std.proofs.Common.{◌≡◌, ℕ, ◌<◌, ◌≤◌, ◌↔◌, Bool, List, [], ◌∷◌, ◌++◌, length, IsPermutation, Contains, refl, subst, arith, Option, Some, None, IsSome, IfSome, IfNone, slice_get, sym, inl, inr, true, false, Bor}
-use Rattle.std.specs.Cmp.{IsTotalOrder}
-use Rattle.std.specs.Fn.{Mut, Called, CalledAt, TakesAt}
-use Rattle.std.proofs.lemmas.Bool.{cases_lt}
-use Rattle.std.proofs.lemmas.List.{nil_from_length}
-use Rattle.std.proofs.lemmas.List.Elements.{Contains-append_left}
-use Rattle.std.proofs.lemmas.Option.{slice_get_within, get_or_from_slice_get}
-use Rattle.std.proofs.lemmas.List.Sorted.{IsPermutation-to_front, IsPermutation-trans, length_permutation}
-use Rattle.std.specs.declared.cmp.Ordering.{Ordering}
-use Rattle.dary_heap.specs.Asking.{IsCallableOn, items_in}
-use Rattle.dary_heap.specs.Bounds.{RisesWithin, push_bound, pop_bound}
-use Rattle.dary_heap.specs.Contents.{Contents}
-use Rattle.dary_heap.specs.HeapOrder.{IsHeapOrdered}
-use Rattle.dary_heap.specs.Machine.{Command, Reply, Push, Pop, Ask, Pushed, PushRefused, Popped, Asked, Step}
-use Rattle.dary_heap.specs.Run.{IsServed, Serves, room, sure_after}
-use Rattle.dary_heap.specs.State.{front, front_with}
+use Rattle.dary_heap.proofs.Common.{◌≡◌, ℕ, ◌<◌, ◌≤◌, ◌↔◌, Bool, List, [], ◌∷◌, ◌++◌, length, IsPermutation, Contains, refl, subst, arith, Option, Some, None, IsSome, IfSome, IfNone, slice_get, sym, inl, inr, true, false, IsTotalOrder, Mut, Called, CalledAt, TakesAt, cases_lt, nil_from_length, Contains-append_left, slice_get_within, get_or_from_slice_get, IsPermutation-to_front, IsPermutation-trans, length_permutation, Ordering, IsCallableOn, items_in, RisesWithin, push_bound, pop_bound, Contents, IsHeapOrdered, Command, Reply, Push, Pop, Ask, Pushed, PushRefused, Popped, Asked, Step, IsServed, Serves, room, sure_after, front, front_with}
+use Rattle.std.proofs.Common.{Bor}
 use Rattle.dary_heap.proofs.Bags.{IsAmong, IsAmong-same, IsAmong-tail, has_none}
 use Rattle.dary_heap.proofs.Fronts.{alone, ordered_state, same_state}
 use Rattle.dary_heap.proofs.Order.{read}

@@ -1,14 +1,7 @@
 -- What a drain makes of a heap, from the contracts of the iterators.
-use Rattle.std.proofs.Common.{◌≡◌, ◌≢◌, ℕ, zero, suc, ◌+◌, ◌-◌, ◌<◌, ◌≤◌, min, Bool, List, [], ◌∷◌, ◌++◌, length, take, refl, sym, ap, ◌∙◌, subst, arith, Option, Some, None, IsSome, MatchOption}
-use Rattle.std.proofs.lemmas.List.{nil_from_length, take_min}
-use Rattle.std.specs.Cmp.{IsTotalOrder}
-use Rattle.std.specs.declared.cmp.Ordering.{Ordering}
-use Rattle.dary_heap.specs.Bounds.{RisesWithin, pops_bound}
-use Rattle.dary_heap.specs.Contents.{Contents}
-use Rattle.dary_heap.specs.HeapOrder.{IsHeapOrdered}
-use Rattle.dary_heap.specs.Machine.{Drain, DrainSorted, Refused, Taken, Pops, PopsInTurn}
-use Rattle.dary_heap.specs.Popping.{IsPop}
-use Rattle.dary_heap.specs.Run.{Serves}
+use Rattle.dary_heap.proofs.Common.{◌≡◌, ◌≢◌, ℕ, zero, suc, ◌+◌, ◌-◌, ◌<◌, ◌≤◌, min, Bool, List, [], ◌∷◌, ◌++◌, length, take, refl, sym, ap, ◌∙◌, subst, arith, Option, Some, None, IsSome, nil_from_length, IsTotalOrder, Ordering, RisesWithin, pops_bound, Contents, IsHeapOrdered, Drain, DrainSorted, Refused, Taken, Pops, PopsInTurn, IsPop, Serves}
+use Rattle.std.proofs.Common.{MatchOption}
+use Rattle.std.proofs.lemmas.List.{take_min}
 use Rattle.dary_heap.proofs.Fronts.{ordered_state, same_state}
 use Rattle.dary_heap.proofs.Order.{none_ordered, read}
 use Rattle.dary_heap.proofs.iter.Popping.{pops_bound_step}

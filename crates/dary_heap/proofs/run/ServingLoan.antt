@@ -1,21 +1,6 @@
 -- What a loan makes of a heap, from the contracts of its calls.
-use Rattle.std.proofs.Common.{◌≡◌, ◌↔◌, ℕ, suc, ◌+◌, ◌-◌, ◌*◌, ◌<◌, ◌≤◌, Bool, true, false, List, [], ◌∷◌, ◌++◌, length, refl, sym, ap, ◌∙◌, subst, arith, Option, Some, None, IsTrue, slice_set, Contains}
-use Rattle.std.proofs.lemmas.List.{nil_from_length}
-use Rattle.std.proofs.lemmas.List.Elements.{Contains-append_left, Contains-append_right}
-use Rattle.std.proofs.lemmas.List.Sorted.{IsPermutation-refl, IsPermutation-sym, IsPermutation-trans, IsPermutation-cons, length_permutation}
+use Rattle.dary_heap.proofs.Common.{◌≡◌, ◌↔◌, ℕ, suc, ◌+◌, ◌-◌, ◌*◌, ◌<◌, ◌≤◌, Bool, true, false, List, [], ◌∷◌, ◌++◌, length, refl, sym, ap, ◌∙◌, subst, arith, Option, Some, None, IsTrue, slice_set, Contains, nil_from_length, Contains-append_left, Contains-append_right, IsPermutation-refl, IsPermutation-sym, IsPermutation-trans, IsPermutation-cons, length_permutation, OnFalse, IsTotalOrder, Ordering, written, IsSameBag, IsGreatest-same_bag, RisesWithin, refreshes, pop_bound, sink_bound, Contents, IsHeapOrdered, IsExceeded, Act, Write, Refresh, End, PutBack, TakeOut, Seen, Old, Changed, Loan, Loaned, Refused, Acts, Ends, Serves, IsState, front}
 use Rattle.std.proofs.Math.Nat.{suc-mul}
-use Rattle.std.specs.Bool.{OnFalse}
-use Rattle.std.specs.Cmp.{IsTotalOrder}
-use Rattle.std.specs.declared.cmp.Ordering.{Ordering}
-use Rattle.dary_heap.specs.Asking.{written}
-use Rattle.dary_heap.specs.Bag.{IsSameBag, IsGreatest-same_bag}
-use Rattle.dary_heap.specs.Bounds.{RisesWithin, refreshes, pop_bound, sink_bound}
-use Rattle.dary_heap.specs.Contents.{Contents}
-use Rattle.dary_heap.specs.HeapOrder.{IsHeapOrdered}
-use Rattle.dary_heap.specs.Loan.{IsExceeded}
-use Rattle.dary_heap.specs.Machine.{Act, Write, Refresh, End, PutBack, TakeOut, Seen, Old, Changed, Loan, Loaned, Refused, Acts, Ends}
-use Rattle.dary_heap.specs.Run.{Serves}
-use Rattle.dary_heap.specs.State.{IsState, front}
 use Rattle.dary_heap.proofs.Bags.{Contains-first, IsAmong, IsAmong-cons, IsAmong-tail, IsAmong-same}
 use Rattle.dary_heap.proofs.Cancelling.{IsPermutation-uncons}
 use Rattle.dary_heap.proofs.Depth.{times_depth-later}

@@ -1,29 +1,10 @@
 -- What a command on many items makes of a heap, from the contract of the call that carries it out.
-use Rattle.std.proofs.Common.{◌≡◌, ℕ, suc, ◌-◌, ◌*◌, ◌≤◌, ◌==◌, ◌↔◌, if◌then◌else◌, max, min, Bool, true, false, List, [], ◌∷◌, ◌++◌, length, IsPermutation, Contains, refl, sym, ap, ◌∙◌, subst, arith, inl, inr, Option, Some, None, IfSome, IfNone, slice_get, length-append, append-nil}
-use Rattle.std.proofs.Math.Nat.{mul-le-mul_right}
-use Rattle.std.proofs.lemmas.Bool.{cases_lt}
+use Rattle.dary_heap.proofs.Common.{◌≡◌, ℕ, suc, ◌-◌, ◌*◌, ◌≤◌, ◌↔◌, if◌then◌else◌, min, Bool, true, false, List, [], ◌∷◌, ◌++◌, length, IsPermutation, Contains, refl, sym, ap, ◌∙◌, subst, arith, inl, inr, Option, Some, None, IfSome, IfNone, slice_get, length-append, append-nil, mul-le-mul_right, cases_lt, nil_from_length, Contains-append_left, Contains-append_right, Contains-append_cases, IsPermutation-sym, Contains-permutation, length_permutation, eqb-true, eqb-false, Bor, IsTotalOrder, Mut, Called, CalledAt, Yields, into_iter_items, items_where_true, Ordering, IsSameBag, IsGreatest, RisesWithin, build_bound, mend_bound, pop_bound, Contents, IsExtended, first_no, IsHeapOrdered, depth, Reply, Step, PopIf, Retain, Extend, Append, Clear, Popped, Done, ExtendRefused, AppendRefused, Serves, IsJoined, front}
+use Rattle.std.proofs.Common.{◌==◌, max}
 use Rattle.std.proofs.lemmas.Grind.{get_or_picked}
-use Rattle.std.proofs.lemmas.List.{nil_from_length}
-use Rattle.std.proofs.lemmas.List.Elements.{Contains-append_left, Contains-append_right, Contains-append_cases}
-use Rattle.std.proofs.lemmas.List.Sorted.{IsPermutation-sym, Contains-permutation, length_permutation}
-use borrow.Author.Tests.{eqb-true, eqb-false}
-use denote.Ref.{Bor}
-use Rattle.std.specs.Cmp.{IsTotalOrder}
-use Rattle.std.specs.Fn.{Mut, Called, CalledAt}
-use Rattle.std.specs.Iterator.{Yields}
-use Rattle.std.specs.Vec.Iter.{into_iter_items, into_iter_steps}
+use Rattle.std.specs.Vec.Iter.{into_iter_steps}
 use Rattle.std.specs.declared.vec.IntoIter.{IntoIter}
-use Rattle.std.specs.List.{items_where_true}
-use Rattle.std.specs.declared.cmp.Ordering.{Ordering}
-use Rattle.dary_heap.specs.Bag.{IsSameBag, IsGreatest}
-use Rattle.dary_heap.specs.Bounds.{RisesWithin, build_bound, mend_bound, pop_bound}
-use Rattle.dary_heap.specs.Contents.{Contents}
-use Rattle.dary_heap.specs.Extending.{IsExtended}
-use Rattle.dary_heap.specs.Filtering.{IsRetained, first_no}
-use Rattle.dary_heap.specs.HeapOrder.{IsHeapOrdered, depth}
-use Rattle.dary_heap.specs.Machine.{Reply, Step, PopIf, Retain, Extend, Append, Clear, Popped, Done, ExtendRefused, AppendRefused}
-use Rattle.dary_heap.specs.Run.{Serves}
-use Rattle.dary_heap.specs.State.{IsJoined, front}
+use Rattle.dary_heap.specs.Filtering.{IsRetained}
 use Rattle.dary_heap.proofs.Bags.{IsAmong, IsAmong-append, IsAmong-same}
 use Rattle.dary_heap.proofs.heap.Filtering.{few_picked}
 use Rattle.dary_heap.proofs.Fronts.{ordered_state, same_state}

@@ -1,12 +1,6 @@
 -- What a heap makes of a command that holds no predicate, it makes of it among commands that do.
-use Rattle.std.proofs.Common.{ℕ, ◌≤◌, Bool, [], ◌∷◌, ◌++◌, length, Contains}
-use Rattle.std.specs.declared.cmp.Ordering.{Ordering}
-use Rattle.dary_heap.specs.Asking.{items_in}
-use Rattle.dary_heap.specs.Bounds.{RisesWithin, charge}
-use Rattle.dary_heap.specs.Contents.{Contents}
-use Rattle.dary_heap.specs.HeapOrder.{IsHeapOrdered}
-use Rattle.dary_heap.specs.Machine.{Command, Reply, Push, Pop, PopIf, Ask, Len, Retain, Extend, Append, Reserve, Shrink, Clear, Drain, DrainSorted, Loan, Step}
-use Rattle.dary_heap.specs.Run.{IsServed, Serves, ServesPlain, room, sure_after}
+use Rattle.dary_heap.proofs.Common.{ℕ, ◌≤◌, Bool, [], ◌∷◌, ◌++◌, length, Contains, Ordering, items_in, RisesWithin, charge, Contents, IsHeapOrdered, Command, Reply, Push, Pop, PopIf, Ask, Len, Retain, Extend, Append, Reserve, Shrink, Clear, Drain, DrainSorted, Loan, Step, IsServed, Serves, room, sure_after}
+use Rattle.dary_heap.specs.Run.{ServesPlain}
 
 -- the same command, among others that may hold one
 abbrev pub among_others : {X P : Type 0} → Command X ⊥ → Command X P

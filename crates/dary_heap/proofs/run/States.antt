@@ -1,15 +1,8 @@
 -- Each step of the machine leads from a state to a state.
-use Rattle.std.proofs.Common.{◌≡◌, ◌≢◌, Bool, true, false, List, [], ◌∷◌, refl, sym, ap, ◌∙◌, subst, arith, inl, inr, Option, Some, None, if◌then◌else◌}
-use Rattle.std.specs.Cmp.{IsTotalOrder}
-use Rattle.std.specs.Ordering.{is_gt, ordering_reverse}
-use Rattle.std.specs.declared.cmp.Ordering.{Ordering}
-use Rattle.std.specs.declared.cmp.Ordering.TheVariants.{Less, Equal, Greater}
-use Rattle.std.proofs.lemmas.List.Sorted.{Contains-permutation}
-use Rattle.dary_heap.specs.Bag.{IsSameBag, IsGreatest, HasGreater, IsGreatest-same_bag}
-use Rattle.dary_heap.specs.Machine.{End, PutBack, TakeOut, Command, Reply, Push, Pop, PopIf, Ask, Len, Retain, Extend, Append, Reserve, Shrink, Clear, Drain, DrainSorted, Loan, Pushed, PushRefused, Popped, Asked, Size, Done, ExtendRefused, AppendRefused, Refused, Taken, Loaned, Ends, Step}
+use Rattle.dary_heap.proofs.Common.{◌≡◌, ◌≢◌, Bool, true, false, List, [], ◌∷◌, refl, sym, ap, ◌∙◌, subst, arith, inl, inr, Option, Some, None, if◌then◌else◌, IsTotalOrder, is_gt, ordering_reverse, Ordering, Less, Equal, Greater, Contains-permutation, IsSameBag, IsGreatest, IsGreatest-same_bag, End, PutBack, TakeOut, Command, Reply, Push, Pop, PopIf, Ask, Len, Retain, Extend, Append, Reserve, Shrink, Clear, Drain, DrainSorted, Loan, Pushed, PushRefused, Popped, Asked, Size, Done, ExtendRefused, AppendRefused, Refused, Taken, Loaned, Ends, Step, IsState, IsSameState, front, front_with}
+use Rattle.dary_heap.specs.Bag.{HasGreater}
 use Rattle.dary_heap.proofs.Bags.{Contains-cases, Contains-first, Contains-later}
 use Rattle.dary_heap.proofs.Order.{not_greater-self, not_greater-trans}
-use Rattle.dary_heap.specs.State.{IsState, IsSameState, front, front_with}
 
 -- a strictly greater value in one listing of a bag is one in every other
 pub HasGreater-same_bag : {X : Type 0} (cmp : X → X → Ordering) (xs ys : List X) (m : X) → IsSameBag xs ys → HasGreater cmp xs m → HasGreater cmp ys m

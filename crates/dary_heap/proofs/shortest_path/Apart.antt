@@ -1,15 +1,8 @@
 -- States that differ, and lists in which no two states are the same.
-use Rattle.std.proofs.Common.{◌≡◌, ℕ, ◌<◌, Bool, true, false, ◌&&◌, nat_eq, List, ◌∷◌, Contains, refl, sym, ap, ◌∙◌, arith}
-use Rattle.std.proofs.lemmas.Bool.{true≢false}
-use Rattle.std.proofs.lemmas.Bool.Decides.{nat_tests}
-use Rattle.std.proofs.lemmas.List.Elements.{All-contains, All-contains_itself, All-from_recursion, All-weaker, recursion_from_All}
-use Rattle.std.proofs.lemmas.Map.Keys.{IsDistinct-IsPermutation, IsDistinct-cons, IsDistinct-head, IsDistinct-tail}
-use Rattle.std.specs.Bool.{Decides}
-use Rattle.std.specs.Cmp.{nat_eq_equiv, unsigned_Decides}
-use Rattle.std.specs.List.{IsDistinct}
-use Rattle.dary_heap.specs.Bag.{IsSameBag}
+use Rattle.dary_heap.proofs.Common.{◌≡◌, ℕ, ◌<◌, Bool, true, false, nat_eq, List, ◌∷◌, Contains, refl, sym, ap, ◌∙◌, arith, true≢false, nat_tests, All-contains, All-contains_itself, All-weaker, recursion_from_All, IsDistinct-IsPermutation, IsDistinct-cons, IsDistinct-head, IsDistinct-tail, Decides, nat_eq_equiv, unsigned_Decides, IsDistinct, IsSameBag, State}
+use Rattle.std.proofs.Common.{◌&&◌}
+use Rattle.std.proofs.lemmas.List.Elements.{All-from_recursion}
 use Rattle.dary_heap.specs.Searching.{same_state}
-use Rattle.dary_heap.specs.declared.shortest_path.State.{State}
 
 flips : (s t : State) → same_state s t ≡ same_state t s
 flips s t = ap (λ b. b && nat_eq s.position t.position) (nat_eq_equiv.symm s.cost t.cost) ∙ ap (λ b. nat_eq t.cost s.cost && b) (nat_eq_equiv.symm s.position t.position)

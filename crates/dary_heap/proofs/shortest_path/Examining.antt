@@ -1,29 +1,14 @@
 -- What a search examined and pushed so far. No node's edges are examined twice, since states come out in the order of their cost and no state is pushed twice.
-use Rattle.std.proofs.Common.{◌≡◌, ℕ, zero, suc, ◌+◌, ◌-◌, ◌*◌, ◌<◌, ◌≤◌, Bool, true, false, nat_eq, inl, inr, List, [], ◌∷◌, ◌++◌, length, map, take, drop, Contains, arith, get_or, get_or-set_same, get_or-set_other, refl, sym, ap, ◌∙◌, subst, append_assoc, append-nil, length-append, Some, slice_get, Vec}
+use Rattle.dary_heap.proofs.Common.{◌≡◌, ℕ, zero, suc, ◌+◌, ◌-◌, ◌*◌, ◌<◌, ◌≤◌, Bool, true, false, nat_eq, inl, inr, List, [], ◌∷◌, ◌++◌, length, map, take, drop, Contains, arith, get_or, get_or-set_same, get_or-set_other, refl, sym, ap, ◌∙◌, subst, append_assoc, append-nil, length-append, Some, slice_get, Vec, mul-le-mul_left, mul-le-mul_right, true≢false, cases_lt, cases_eq, get_or_past, length-take-le, take-append-drop, All-contains_itself, All-weaker, recursion_from_All, IsPermutation-sym, IsPermutation-to_front, sum_by-set, IsDistinct-IsPermutation, IsDistinct-cons, IsDistinct-head, IsDistinct-tail, Decides, nat_eq_equiv, unsigned_Decides, Global, AllByRecursion, IsDistinct, sum_by, IsSameBag, IsGreatest, RisesWithin, push_bound, pop_bound, Contents, Pushes, AreExaminedOnce, edges_of, all_edges_of, state_cmp, state, Relaxes, Graph, Edge, State}
 use Rattle.std.proofs.Math.ListN.{set}
-use Rattle.std.proofs.Math.Nat.{mul-le-mul_left, mul-le-mul_right}
-use Rattle.std.proofs.lemmas.Bool.{true≢false, cases_lt, cases_eq}
-use Rattle.std.proofs.lemmas.List.{get_or_past, length-take-le, take-append-drop}
-use Rattle.std.proofs.lemmas.List.Elements.{All-contains_itself, All-weaker, Contains-push_cases, recursion_from_All}
-use Rattle.std.proofs.lemmas.List.Sorted.{IsPermutation-sym, IsPermutation-to_front}
-use Rattle.std.proofs.lemmas.List.Sums.{sum_by-cons, sum_by-set, sum-map}
-use Rattle.std.proofs.lemmas.Map.Keys.{IsDistinct-IsPermutation, IsDistinct-cons, IsDistinct-head, IsDistinct-tail}
-use Rattle.std.specs.Bool.{Decides}
-use Rattle.std.specs.Cmp.{nat_eq_equiv, unsigned_Decides}
-use Rattle.std.specs.declared.alloc.Global.{Global}
-use Rattle.std.specs.List.{AllByRecursion, IsDistinct, sum_by}
+use Rattle.std.proofs.lemmas.List.Elements.{Contains-push_cases}
+use Rattle.std.proofs.lemmas.List.Sums.{sum_by-cons, sum-map}
 use Rattle.dary_heap.proofs.shortest_path.Apart.{apart_more, apart_less, not_twice}
 use Rattle.dary_heap.proofs.Bags.{came_first, came_later, came_cases, holds_none}
 use Rattle.dary_heap.proofs.shortest_path.Cheapest.{no_cheaper}
 use Rattle.dary_heap.proofs.Depth.{depth-later, times_depth-later}
-use Rattle.dary_heap.specs.Bag.{IsSameBag, IsGreatest}
-use Rattle.dary_heap.specs.Bounds.{RisesWithin, push_bound, pop_bound}
-use Rattle.dary_heap.specs.Contents.{Contents}
-use Rattle.dary_heap.specs.Examining.{Pushes, AreExamined, AreExaminedOnce, edges_of, all_edges_of}
-use Rattle.dary_heap.specs.Searching.{state_cmp, state, AreApart, Relaxes}
-use Rattle.dary_heap.specs.Walk.{Graph}
-use Rattle.dary_heap.specs.declared.shortest_path.Edge.{Edge}
-use Rattle.dary_heap.specs.declared.shortest_path.State.{State}
+use Rattle.dary_heap.specs.Examining.{AreExamined}
+use Rattle.dary_heap.specs.Searching.{AreApart}
 
 -- the edges of these nodes were examined, each node's once: no state that waits can have them examined again
 pub record AreOnce (limit : ℕ) (found : List ℕ) (waiting : List State) (nodes : List ℕ) : Type 0 where

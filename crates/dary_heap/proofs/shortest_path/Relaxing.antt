@@ -1,18 +1,9 @@
 -- Edges that are examined one after another.
-use Rattle.std.proofs.Common.{◌≡◌, ◌⊎◌, ℕ, ◌+◌, ◌<◌, ◌≤◌, inl, inr, List, [], ◌∷◌, ◌++◌, length, Contains, arith, get_or, refl, sym, ap, ◌∙◌, subst, get_or-set_same, get_or-set_other}
+use Rattle.dary_heap.proofs.Common.{◌≡◌, ◌⊎◌, ℕ, ◌+◌, ◌<◌, ◌≤◌, inl, inr, List, [], ◌∷◌, ◌++◌, length, Contains, arith, get_or, refl, sym, ap, ◌∙◌, subst, get_or-set_same, get_or-set_other, cases_eq, get_or_default, Contains-push, Contains-append_left, Contains-append_right, Contains-append_cases, length_permutation, sum_by-set, IsSameBag, state, IsAlong, Relaxes, Edge, State}
 use Rattle.std.proofs.Math.ListN.{set, length-set}
-use Rattle.std.proofs.lemmas.Bool.{cases_eq}
-use Rattle.std.proofs.lemmas.List.{get_or_default}
-use Rattle.std.proofs.lemmas.List.Elements.{Contains-push, Contains-append_left, Contains-append_right, Contains-append_cases}
-use Rattle.std.proofs.lemmas.List.Sorted.{length_permutation}
-use Rattle.std.proofs.lemmas.List.Sums.{sum_by-set}
 use Rattle.dary_heap.proofs.shortest_path.Apart.{apart_more}
 use Rattle.dary_heap.proofs.Bags.{came_first, came_later, came_cases}
 use Rattle.dary_heap.proofs.Fronts.{alone}
-use Rattle.dary_heap.specs.Bag.{IsSameBag}
-use Rattle.dary_heap.specs.Searching.{state, IsAlong, Relaxes}
-use Rattle.dary_heap.specs.declared.shortest_path.Edge.{Edge}
-use Rattle.dary_heap.specs.declared.shortest_path.State.{State}
 
 -- what the code read as the cost found
 found_is : (limit : ℕ) (found : List ℕ) (i x : ℕ) → i < length found → x ≡ get_or found i x → x ≡ get_or found i limit

@@ -1,19 +1,12 @@
 -- What holds of a search each time that a state is about to be taken, and what follows from it.
-use Rattle.std.proofs.Common.{◌≡◌, ◌≢◌, ◌⊎◌, ℕ, ◌+◌, ◌<◌, ◌≤◌, min, inl, inr, List, [], ◌∷◌, length, Contains, arith, get_or, get_or-set_same, get_or-set_other, refl, sym, ap, ◌∙◌, subst, Some, slice_get, Vec}
-use Rattle.std.specs.declared.alloc.Global.{Global}
+use Rattle.dary_heap.proofs.Common.{◌≡◌, ◌≢◌, ◌⊎◌, ℕ, ◌+◌, ◌<◌, ◌≤◌, min, inl, inr, List, [], ◌∷◌, length, Contains, arith, get_or, get_or-set_same, get_or-set_other, refl, sym, ap, ◌∙◌, subst, Some, slice_get, Vec, Global, cases_lt, cases_eq, get_or_default, get_or_past, IsPermutation-sym, slice_get_read, IsSameBag, IsGreatest, state_cmp, state, IsAlong, Relaxes, Graph, IsWithin, HasEdge, IsWalk, cost_of, Edge, State}
 use Rattle.std.proofs.Math.ListN.{set, length-set, replicate}
-use Rattle.std.proofs.lemmas.Bool.{cases_lt, cases_eq}
-use Rattle.std.proofs.lemmas.List.{get_or_default, get_or_past, get_or-replicate, length-replicate}
-use Rattle.std.proofs.lemmas.List.Sorted.{IsPermutation-sym}
-use Rattle.std.proofs.lemmas.Option.{slice_get_read}
-use Rattle.dary_heap.specs.Bag.{IsSameBag, IsGreatest}
+use Rattle.std.proofs.lemmas.List.{get_or-replicate, length-replicate}
 use Rattle.dary_heap.proofs.shortest_path.Cheapest.{no_cheaper}
 use Rattle.dary_heap.proofs.Bags.{holds_none, came_first, came_later, came_cases}
 use Rattle.dary_heap.proofs.shortest_path.Walks.{Reaches, reaches_self, reaches_more, in_row, leads_within}
-use Rattle.dary_heap.specs.Searching.{state_cmp, state, IsAlong, HasTooLarge, Relaxes}
-use Rattle.dary_heap.specs.Walk.{Graph, IsWithin, HasEdge, IsWalk, cost_of, IsLeastCost, IsUnreached, HasCritical, NoneCriticalBelow}
-use Rattle.dary_heap.specs.declared.shortest_path.Edge.{Edge}
-use Rattle.dary_heap.specs.declared.shortest_path.State.{State}
+use Rattle.dary_heap.specs.Searching.{HasTooLarge}
+use Rattle.dary_heap.specs.Walk.{IsLeastCost, IsUnreached, HasCritical, NoneCriticalBelow}
 
 module _ (limit : ℕ) (g : Graph) (start goal : ℕ) where
   -- node u isn't the goal, and each of its edges was examined at the cost found for u

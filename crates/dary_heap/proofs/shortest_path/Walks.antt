@@ -1,10 +1,5 @@
 -- Walks, edge by edge.
-use Rattle.std.proofs.Common.{◌≡◌, ℕ, ◌+◌, ◌<◌, List, [], ◌∷◌, ◌++◌, Contains, All, arith, refl, sym, subst, Some, slice_get, Vec}
-use Rattle.std.specs.declared.alloc.Global.{Global}
-use Rattle.std.proofs.lemmas.List.Elements.{All-contains}
-use Rattle.std.proofs.lemmas.Option.{slice_get_within, get_or_from_slice_get}
-use Rattle.dary_heap.specs.Walk.{Graph, IsWithin, HasEdge, IsWalk, cost_of}
-use Rattle.dary_heap.specs.declared.shortest_path.Edge.{Edge}
+use Rattle.dary_heap.proofs.Common.{◌≡◌, ℕ, ◌+◌, ◌<◌, List, [], ◌∷◌, ◌++◌, Contains, All, arith, refl, sym, subst, Some, slice_get, Vec, Global, All-contains, slice_get_within, get_or_from_slice_get, Graph, IsWithin, HasEdge, IsWalk, cost_of, Edge}
 
 -- some walk from u to v costs c
 pub record Reaches (g : Graph) (u v c : ℕ) : Type 0 where

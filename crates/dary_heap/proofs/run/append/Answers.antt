@@ -1,5 +1,4 @@
-use Rattle.std.proofs.Common.{ap}
-use Rattle.dary_heap.specs.Contents.{Contents}
+use Rattle.dary_heap.proofs.Common.{ap, Contents}
 use Rattle.dary_heap.proofs.run.ServingMany.{appended, append_refused}
 use Rattle.dary_heap.proofs.run.append.Goals as goal
 

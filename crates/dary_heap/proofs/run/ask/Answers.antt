@@ -1,4 +1,4 @@
-use Rattle.std.proofs.Common.{◌≡◌, Some, refl, ◌∙◌}
+use Rattle.dary_heap.proofs.Common.{◌≡◌, Some, refl, ◌∙◌}
 use Rattle.dary_heap.proofs.run.ask.Goals as goal
 
 pub returns-clause-asked : goal.returns-clause-asked

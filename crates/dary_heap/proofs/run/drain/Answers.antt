@@ -1,5 +1,5 @@
-use Rattle.std.proofs.Common.{◌≡◌, ◌++◌, ◌∷◌, [], length, take, min, refl, sym, ap, ◌∙◌, arith, append_assoc, length-append}
-use Rattle.dary_heap.specs.Drain.{drain_rest, emptied}
+use Rattle.dary_heap.proofs.Common.{◌≡◌, ◌++◌, ◌∷◌, [], length, take, min, refl, sym, ap, ◌∙◌, arith, append_assoc, length-append, drain_rest}
+use Rattle.dary_heap.specs.Drain.{emptied}
 use Rattle.dary_heap.proofs.run.ServingDrains.{drain_refused, drained, first_given, given_first}
 use Rattle.dary_heap.proofs.sift.Written.{written_back}
 use Rattle.dary_heap.proofs.run.drain.Goals as goal

@@ -1,5 +1,4 @@
-use Rattle.std.proofs.Common.{◌≡◌, ◌++◌, ◌≤◌, vec_len, vec_capacity}
-use Rattle.dary_heap.specs.Drain.{drain_rest}
+use Rattle.dary_heap.proofs.Common.{◌≡◌, ◌++◌, ◌≤◌, vec_len, vec_capacity, drain_rest}
 use Rattle.dary_heap.proofs.run.drain.Given as goal
 
 abbrev pub invariant-loop : goal.invariant-loop

@@ -1,8 +1,4 @@
-use Rattle.std.proofs.Common.{rules, ◌≡◌, ℕ, ◌+◌, ◌≤◌, ◌∷◌, [], length, min, Some, refl, sym, ap, ◌∙◌, subst, arith, length-append}
-use Rattle.dary_heap.specs.Bounds.{RisesWithin}
-use Rattle.dary_heap.specs.Contents.{Contents}
-use Rattle.dary_heap.specs.DrainSorted.{drained_heap}
-use Rattle.dary_heap.specs.Popping.{IsPop}
+use Rattle.dary_heap.proofs.Common.{rules, ◌≡◌, ℕ, ◌+◌, ◌≤◌, ◌∷◌, [], length, min, Some, refl, sym, ap, ◌∙◌, subst, arith, length-append, RisesWithin, Contents, drained_heap, IsPop}
 use Rattle.dary_heap.proofs.run.ServingDrains.{PopsThrough, PopsThrough-more, IsPop-step, popped_counted, popped_some, sorted_refused, drained_sorted}
 use Rattle.dary_heap.proofs.run.drain_sorted.Goals as goal
 

@@ -1,6 +1,5 @@
-use Rattle.std.proofs.Common.{◌≡◌, ◌+◌, ◌≤◌, length, vec_len, vec_capacity}
-use Rattle.dary_heap.specs.Bounds.{pops_bound}
-use Rattle.dary_heap.specs.DrainSorted.{drained_heap, drained_lender}
+use Rattle.dary_heap.proofs.Common.{◌≡◌, ◌+◌, ◌≤◌, length, vec_len, vec_capacity, pops_bound, drained_heap}
+use Rattle.dary_heap.specs.DrainSorted.{drained_lender}
 use Rattle.dary_heap.proofs.run.ServingDrains.{PopsThrough}
 use Rattle.dary_heap.proofs.run.drain_sorted.Given as goal
 

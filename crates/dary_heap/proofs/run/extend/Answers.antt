@@ -1,8 +1,5 @@
-use Rattle.std.proofs.Common.{◌∷◌, [], ◌++◌, sym, ◌∙◌, subst, append_assoc}
+use Rattle.dary_heap.proofs.Common.{◌∷◌, [], ◌++◌, sym, ◌∙◌, subst, append_assoc, map-id, into_iter_items, IsExtended}
 use Rattle.std.proofs.IntoIterSteps.{All-taken}
-use Rattle.std.proofs.lemmas.List.{map-id}
-use Rattle.std.specs.Vec.Iter.{into_iter_items}
-use Rattle.dary_heap.specs.Extending.{IsExtended}
 use Rattle.dary_heap.proofs.run.ServingMany.{extended, extend_refused, taken_front}
 use Rattle.dary_heap.proofs.run.extend.Goals as goal
 

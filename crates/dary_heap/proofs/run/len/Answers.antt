@@ -1,4 +1,4 @@
-use Rattle.std.proofs.Common.{refl, arith}
+use Rattle.dary_heap.proofs.Common.{refl, arith}
 use Rattle.dary_heap.proofs.Fronts.{same_state}
 use Rattle.dary_heap.proofs.run.Serving.{serves_unchanged}
 use Rattle.dary_heap.proofs.run.len.Goals as goal

@@ -1,13 +1,6 @@
-use Rattle.std.proofs.Common.{rules, ◌≡◌, ℕ, ◌+◌, ◌*◌, ◌≤◌, ◌++◌, ◌∷◌, List, [], length, refl, sym, ap, ◌∙◌, subst, arith, vec_capacity, append_assoc, append-nil, length-append, map, slice_set}
-use Rattle.std.proofs.lemmas.List.{map-append, length-map, nil_from_length}
+use Rattle.dary_heap.proofs.Common.{rules, ◌≡◌, ℕ, ◌+◌, ◌*◌, ◌≤◌, ◌++◌, ◌∷◌, List, [], length, refl, sym, ap, ◌∙◌, subst, arith, vec_capacity, append_assoc, append-nil, length-append, map, slice_set, map-append, length-map, nil_from_length, into_iter_items, into_iter_len, eqb-true, eqb-false, RisesWithin, refreshes, sink_bound, Contents, IsHeapOrdered, loaned}
 use Rattle.std.proofs.Math.ListN.{length-set}
-use Rattle.std.specs.Vec.Iter.{into_iter_items, into_iter_len}
-use borrow.Author.Tests.{eqb-true, eqb-false}
-use Rattle.dary_heap.specs.Bounds.{RisesWithin, refreshes, sink_bound}
-use Rattle.dary_heap.specs.Contents.{Contents}
-use Rattle.dary_heap.specs.HeapOrder.{IsHeapOrdered}
 use Rattle.dary_heap.specs.Machine as machine
-use Rattle.dary_heap.specs.PeekMut.{loaned}
 use Rattle.dary_heap.specs.Reading as read
 use Rattle.dary_heap.proofs.run.ServingLoan.{IsActed, IsActed-begins, IsActed-write, IsActed-refresh, IsLoan, cost-write, cost-refresh, loan_of_none, loan_refused, put_back, taken_out}
 use Rattle.dary_heap.proofs.run.loan.Goals as goal

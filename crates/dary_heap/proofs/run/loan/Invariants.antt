@@ -1,7 +1,5 @@
-use Rattle.std.proofs.Common.{◌≡◌, ◌+◌, ◌*◌, ◌++◌, ◌≤◌, length, vec_capacity}
-use Rattle.std.specs.Vec.Iter.{into_iter_items, into_iter_len}
-use Rattle.dary_heap.specs.Bounds.{refreshes, sink_bound}
-use Rattle.dary_heap.specs.PeekMut.{loaned, lender}
+use Rattle.dary_heap.proofs.Common.{◌≡◌, ◌+◌, ◌*◌, ◌++◌, ◌≤◌, length, vec_capacity, into_iter_items, into_iter_len, refreshes, sink_bound, loaned}
+use Rattle.dary_heap.specs.PeekMut.{lender}
 use Rattle.dary_heap.specs.Reading as read
 use Rattle.dary_heap.proofs.run.ServingLoan.{IsActed}
 use Rattle.dary_heap.proofs.run.loan.Given as goal

@@ -1,8 +1,4 @@
-use Rattle.std.proofs.Common.{◌≡◌, List, [], ◌∷◌, ◌++◌, length, map, All, Contains, sym, ap, ◌∙◌, subst, arith, rules, inl, inr, append_assoc, append-nil, length-append}
-use Rattle.std.proofs.lemmas.List.{map-append, length-map, nil_from_length}
-use Rattle.std.proofs.lemmas.List.Elements.{Contains-append_left, Contains-append_right, Contains-append_cases}
-use Rattle.std.specs.Vec.Iter.{into_iter_items}
-use Rattle.dary_heap.specs.Asking.{IsCallableOn, items_in, predicates_in}
+use Rattle.dary_heap.proofs.Common.{◌≡◌, List, [], ◌∷◌, ◌++◌, length, map, All, Contains, sym, ap, ◌∙◌, subst, arith, rules, inl, inr, append_assoc, append-nil, length-append, map-append, length-map, nil_from_length, Contains-append_left, Contains-append_right, Contains-append_cases, into_iter_items, IsCallableOn, items_in, predicates_in}
 use Rattle.dary_heap.specs.Reading as read
 use Rattle.dary_heap.proofs.run.Asking.{callable_one, items_of_one}
 use Rattle.dary_heap.proofs.Fronts.{ordered_state}

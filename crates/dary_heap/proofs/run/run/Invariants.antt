@@ -1,10 +1,5 @@
-use Rattle.std.proofs.Common.{◌≡◌, ◌+◌, ◌≤◌, ◌++◌, length, Contains, vec_capacity}
-use Rattle.std.specs.Fn.{CalledAt}
-use Rattle.std.specs.Vec.Iter.{into_iter_items, into_iter_len}
-use Rattle.dary_heap.specs.Asking.{items_in}
-use Rattle.dary_heap.specs.HeapOrder.{IsHeapOrdered}
+use Rattle.dary_heap.proofs.Common.{◌≡◌, ◌+◌, ◌≤◌, ◌++◌, length, Contains, vec_capacity, CalledAt, into_iter_items, into_iter_len, items_in, IsHeapOrdered, Runs}
 use Rattle.dary_heap.specs.Reading as read
-use Rattle.dary_heap.specs.Run.{Runs}
 use Rattle.dary_heap.proofs.run.run.Given as goal
 
 abbrev pub invariant-loop-command : goal.invariant-loop-command

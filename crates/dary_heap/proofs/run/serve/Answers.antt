@@ -1,4 +1,4 @@
-use Rattle.std.proofs.Common.{rules, arith}
+use Rattle.dary_heap.proofs.Common.{rules, arith}
 use Rattle.dary_heap.proofs.run.Serving.{asks, callable_on_front}
 use Rattle.dary_heap.proofs.run.ServingMany.{pops_where}
 use Rattle.dary_heap.proofs.run.ServingPlain.{plain}

@@ -1,4 +1,4 @@
-use Rattle.std.specs.Fn.{CalledAt}
+use Rattle.dary_heap.proofs.Common.{CalledAt}
 use Rattle.dary_heap.proofs.run.SameReplies.{same_replies}
 use Rattle.dary_heap.proofs.run.two_arities.Goals as goal
 

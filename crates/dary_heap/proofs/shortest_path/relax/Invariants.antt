@@ -1,6 +1,4 @@
-use Rattle.std.proofs.Common.{◌≡◌, ◌+◌, ◌≤◌, ◌++◌, take}
-use Rattle.dary_heap.specs.Examining.{Pushes}
-use Rattle.dary_heap.specs.Searching.{Relaxes}
+use Rattle.dary_heap.proofs.Common.{◌≡◌, ◌+◌, ◌≤◌, ◌++◌, take, Pushes, Relaxes}
 use Rattle.dary_heap.proofs.shortest_path.relax.Given as goal
 
 abbrev pub invariant-loop-edge : goal.invariant-loop-edge

@@ -1,15 +1,6 @@
-use Rattle.std.proofs.Common.{◌≡◌, ℕ, ◌+◌, ◌*◌, List, [], ◌∷◌, ◌++◌, ◌∙◌, length, ap, arith, refl, slice_set, sym, subst, lit<}
-use Rattle.std.proofs.lemmas.List.{get_or_default}
-use Rattle.std.proofs.lemmas.List.Sorted.{length_permutation}
-use Rattle.std.proofs.lemmas.Result.{err_from_is_err_and}
+use Rattle.dary_heap.proofs.Common.{◌≡◌, ℕ, ◌+◌, ◌*◌, List, [], ◌∷◌, ◌++◌, ◌∙◌, length, ap, arith, refl, slice_set, sym, subst, get_or_default, length_permutation, err_from_is_err_and, slice_get_read, AreExaminedOnce, all_edges_of, edges_of, RisesWithin, push_bound, pop_bound, Contents, Edge, State, Graph}
+use Rattle.std.proofs.Common.{lit<}
 use Rattle.dary_heap.proofs.Bags.{has_none}
-use Rattle.std.proofs.lemmas.Option.{slice_get_read}
-use Rattle.dary_heap.specs.Examining.{AreExaminedOnce, all_edges_of, edges_of}
-use Rattle.dary_heap.specs.Bounds.{RisesWithin, push_bound, pop_bound}
-use Rattle.dary_heap.specs.Contents.{Contents}
-use Rattle.dary_heap.specs.declared.shortest_path.Edge.{Edge}
-use Rattle.dary_heap.specs.declared.shortest_path.State.{State}
-use Rattle.dary_heap.specs.Walk.{Graph}
 use Rattle.dary_heap.proofs.shortest_path.Examining.{AreOnce, all_examined, charged_ends, last_examined, none_examined, once_few, distinct_node, IsCharged, charged_begins, charged_long, charged_pop, charged_push, all_edges_more, edges_at, once_begins, once_more, once_skips}
 use Rattle.dary_heap.proofs.shortest_path.Searching.{IsSearch, taken, found_least, found_uncritical, none_reached, none_uncritical, too_large, after_skip, after_examining, search_begins}
 use Rattle.dary_heap.proofs.shortest_path.search.Goals.{In_default-pop, In_err-relax}

@@ -1,5 +1,5 @@
-use Rattle.std.proofs.Common.{◌≡◌, ℕ, ◌+◌, ◌≤◌, List, length, sum}
-use Rattle.dary_heap.specs.Examining.{all_edges_of}
+use Rattle.dary_heap.proofs.Common.{◌≡◌, ℕ, ◌+◌, ◌≤◌, List, length, all_edges_of}
+use Rattle.std.proofs.Common.{sum}
 use Rattle.dary_heap.proofs.shortest_path.Examining.{AreOnce, IsCharged}
 use Rattle.dary_heap.proofs.shortest_path.Searching.{IsSearch}
 use Rattle.dary_heap.proofs.shortest_path.search.Given as goal

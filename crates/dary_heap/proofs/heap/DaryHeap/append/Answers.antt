@@ -1,5 +1,5 @@
-use Rattle.std.proofs.Common.{◌++◌, length, length-append, ap, arith}
-use Rattle.std.proofs.lemmas.List.Sorted.{IsPermutation-append_comm, IsPermutation-trans, length_permutation}
+use Rattle.dary_heap.proofs.Common.{◌++◌, length, length-append, ap, arith, IsPermutation-trans, length_permutation}
+use Rattle.std.proofs.lemmas.List.Sorted.{IsPermutation-append_comm}
 use Rattle.dary_heap.proofs.heap.DaryHeap.append.Goals as goal
 use Rattle.dary_heap.proofs.heap.DaryHeap.append.Goals.{then-len+in_ok-reserve, else-len+in_ok-reserve-2}
 

@@ -1,7 +1,4 @@
-use Rattle.std.proofs.Common.{Vec, vec_capacity, vec_len, refl, ap, ◌∙◌}
-use Rattle.std.specs.declared.alloc.Global.{Global}
-use Rattle.dary_heap.specs.Contents.{Contents}
-use Rattle.dary_heap.specs.Drain.{drain_rest}
+use Rattle.dary_heap.proofs.Common.{Vec, vec_capacity, vec_len, refl, ap, ◌∙◌, Global, Contents, drain_rest}
 use Rattle.dary_heap.proofs.iter.Iterating.{runs, runs_back}
 use Rattle.dary_heap.proofs.Order.{none_ordered}
 use Rattle.dary_heap.proofs.sift.Written.{none_written, same_contents}

@@ -1,4 +1,4 @@
-use Rattle.std.proofs.Common.{slice_get, ap, ◌∙◌}
+use Rattle.dary_heap.proofs.Common.{slice_get, ap, ◌∙◌}
 use Rattle.dary_heap.proofs.Bounded.{shown_bound}
 use Rattle.dary_heap.proofs.Order.{peeked}
 use Rattle.dary_heap.proofs.heap.DaryHeap.peek.Goals as goal

@@ -1,5 +1,4 @@
-use Rattle.std.proofs.Common.{◌≡◌, ◌↔◌, ◌<◌, List, [], ◌∷◌, length, refl, sym, subst, arith, Option, Some, None, IsSome, IfSome, slice_get}
-use Rattle.dary_heap.specs.Bounds.{RisesWithin, pop_bound}
+use Rattle.dary_heap.proofs.Common.{◌≡◌, ◌↔◌, ◌<◌, List, [], ◌∷◌, length, refl, sym, subst, arith, Option, Some, None, IsSome, IfSome, slice_get, RisesWithin, pop_bound}
 use Rattle.dary_heap.proofs.sift.BelowRoot.{below_root}
 use Rattle.dary_heap.proofs.Bounded.{popped_bound}
 use Rattle.dary_heap.proofs.Order.{popped_is_greatest}

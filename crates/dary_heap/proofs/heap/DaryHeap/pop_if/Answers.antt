@@ -1,5 +1,4 @@
-use Rattle.std.proofs.Common.{◌≡◌, true, false, Some, refl, subst, ◌∙◌}
-use Rattle.dary_heap.specs.Bag.{IsGreatest}
+use Rattle.dary_heap.proofs.Common.{◌≡◌, true, false, Some, refl, subst, ◌∙◌, IsGreatest}
 use Rattle.dary_heap.proofs.heap.DaryHeap.pop_if.Goals as goal
 
 pub returns-then-predicate-clause-asked : goal.returns-then-predicate-clause-asked

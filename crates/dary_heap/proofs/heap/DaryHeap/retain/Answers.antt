@@ -1,8 +1,4 @@
-use Rattle.std.proofs.Common.{◌≡◌, ◌-◌, ◌≤◌, length, take, sym, ap, ◌∙◌, subst, arith}
-use Rattle.std.specs.List.{items_where_true}
-use Rattle.dary_heap.specs.Bounds.{RisesWithin, mend_bound}
-use Rattle.dary_heap.specs.Filtering.{first_no}
-use Rattle.dary_heap.specs.HeapOrder.{IsHeapOrdered}
+use Rattle.dary_heap.proofs.Common.{◌≡◌, ◌-◌, ◌≤◌, length, take, sym, ap, ◌∙◌, subst, arith, items_where_true, RisesWithin, mend_bound, first_no, IsHeapOrdered}
 use Rattle.dary_heap.proofs.heap.Filtering.{picked-all, picked-front, length-picked, few_picked, first_no-within}
 use Rattle.dary_heap.proofs.sift.Tail.{front-ordered}
 use Rattle.dary_heap.proofs.sift.Written.{written_back, same_contents}

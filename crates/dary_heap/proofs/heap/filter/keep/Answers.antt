@@ -1,12 +1,7 @@
-use Rattle.std.proofs.Common.{◌≡◌, ◌≢◌, ℕ, ◌+◌, ◌<◌, ◌≤◌, [], ◌∷◌, ◌++◌, Bool, true, false, List, length, take, drop, Some, slice_get, nat_eq, refl, sym, ap, ◌∙◌, arith, inl, inr, add-one, length-append}
-use Rattle.std.proofs.lemmas.Bool.{cases_eq, eq-eqb, ne_eqb}
-use Rattle.std.proofs.lemmas.Option.{slice_get_read}
-use Rattle.std.specs.Fn.{CalledAt}
-use mathlib.Core.Bool.{◌&&◌}
-use mir.Val.{bool_byte}
+use Rattle.dary_heap.proofs.Common.{◌≡◌, ◌≢◌, ℕ, ◌+◌, ◌<◌, ◌≤◌, [], ◌∷◌, ◌++◌, Bool, true, false, List, length, take, drop, Some, slice_get, nat_eq, refl, sym, ap, ◌∙◌, arith, inl, inr, length-append, cases_eq, slice_get_read, CalledAt, ◌&&◌, bool_byte, TakesInTurn, first_no}
+use Rattle.std.proofs.Common.{add-one}
+use Rattle.std.proofs.lemmas.Bool.{eq-eqb, ne_eqb}
 use Rattle.std.proofs.Retain.{picked_push_false}
-use Rattle.dary_heap.specs.Asking.{TakesInTurn}
-use Rattle.dary_heap.specs.Filtering.{first_no}
 use Rattle.dary_heap.proofs.Exchange.{Exchanges, exchanges}
 use Rattle.dary_heap.proofs.heap.Filtering.{ReturnsInTurn-more, picked-yes, first_no-within, first_no-next, first_no-still, next_asked, take-before, take-brought}
 use Rattle.dary_heap.proofs.heap.filter.keep.Invariants.{Told}

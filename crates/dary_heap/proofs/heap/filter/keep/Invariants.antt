@@ -1,9 +1,4 @@
-use Rattle.std.proofs.Common.{◌≡◌, ℕ, ◌≤◌, Bool, List, length, take, drop, slice_get, vec_capacity}
-use Rattle.std.specs.Fn.{CalledAt}
-use Rattle.std.specs.List.{items_where_true}
-use Rattle.std.specs.List.Retain.{ReturnsInTurn}
-use Rattle.dary_heap.specs.Asking.{TakesInTurn}
-use Rattle.dary_heap.specs.Filtering.{first_no}
+use Rattle.dary_heap.proofs.Common.{◌≡◌, ℕ, ◌≤◌, Bool, List, length, take, drop, slice_get, vec_capacity, CalledAt, items_where_true, ReturnsInTurn, TakesInTurn, first_no}
 use Rattle.dary_heap.proofs.heap.filter.keep.Given as goal
 
 -- what the answers so far tell

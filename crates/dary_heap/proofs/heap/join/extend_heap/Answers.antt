@@ -1,7 +1,5 @@
-use Rattle.std.proofs.Common.{◌≡◌, ◌++◌, length, take, map, vec_capacity, sym, ap, ◌∙◌, subst, arith}
+use Rattle.dary_heap.proofs.Common.{◌≡◌, ◌++◌, length, take, map, vec_capacity, sym, ap, ◌∙◌, subst, arith, IsExtended, IsHeapOrdered}
 use Rattle.std.proofs.lemmas.Result.{MatchResult-weaker}
-use Rattle.dary_heap.specs.Extending.{IsExtended}
-use Rattle.dary_heap.specs.HeapOrder.{IsHeapOrdered}
 use Rattle.dary_heap.proofs.heap.Extending.{Yields-front, mended}
 use Rattle.dary_heap.proofs.sift.Written.{written_back}
 use Rattle.dary_heap.proofs.heap.join.extend_heap.Given.{Over}

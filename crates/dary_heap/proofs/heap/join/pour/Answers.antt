@@ -1,5 +1,5 @@
-use Rattle.std.proofs.Common.{◌++◌, [], ◌∷◌, sym, ap, ◌∙◌, arith, append-nil, length-append}
-use Rattle.std.proofs.iter.Next.{begun, again, less, Gave-then}
+use Rattle.dary_heap.proofs.Common.{◌++◌, [], ◌∷◌, sym, ap, ◌∙◌, arith, append-nil, length-append, begun, again, less}
+use Rattle.std.proofs.iter.Next.{Gave-then}
 use Rattle.dary_heap.proofs.heap.Extending.{came_both}
 use Rattle.dary_heap.proofs.heap.join.pour.Goals as goal
 

@@ -1,6 +1,4 @@
-use Rattle.std.proofs.Common.{◌≡◌, ◌+◌, ◌≤◌, ◌++◌, length, map, vec_len, vec_capacity}
-use Rattle.std.specs.Iterator.{EndsFrom, items_left}
-use Rattle.std.proofs.iter.Next.{Ran}
+use Rattle.dary_heap.proofs.Common.{◌≡◌, ◌+◌, ◌≤◌, ◌++◌, length, map, vec_len, vec_capacity, EndsFrom, items_left, Ran}
 use Rattle.dary_heap.proofs.heap.join.push_all.Given as goal
 
 abbrev pub invariant-loop-rest : goal.invariant-loop-rest

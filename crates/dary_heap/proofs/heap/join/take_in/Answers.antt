@@ -1,6 +1,4 @@
-use Rattle.std.proofs.Common.{◌≡◌, ◌-◌, ◌++◌, length, take, ap, ◌∙◌, sym, subst, arith, append-nil}
-use Rattle.dary_heap.specs.Bounds.{RisesWithin, mend_bound}
-use Rattle.dary_heap.specs.HeapOrder.{IsHeapOrdered}
+use Rattle.dary_heap.proofs.Common.{◌≡◌, ◌-◌, ◌++◌, length, take, ap, ◌∙◌, sym, subst, arith, append-nil, RisesWithin, mend_bound, IsHeapOrdered}
 use Rattle.dary_heap.proofs.sift.Written.{written_back}
 use Rattle.dary_heap.proofs.heap.join.take_in.Goals as goal
 

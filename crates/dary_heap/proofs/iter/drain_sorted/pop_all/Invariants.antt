@@ -1,5 +1,4 @@
-use Rattle.std.proofs.Common.{◌≡◌, ◌+◌, ◌≤◌, length}
-use Rattle.dary_heap.specs.Bounds.{pops_bound}
+use Rattle.dary_heap.proofs.Common.{◌≡◌, ◌+◌, ◌≤◌, length, pops_bound}
 use Rattle.dary_heap.proofs.iter.drain_sorted.pop_all.Given as goal
 
 -- what was popped took no more comparisons than those pops may

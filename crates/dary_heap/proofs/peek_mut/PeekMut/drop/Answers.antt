@@ -1,5 +1,4 @@
-use Rattle.std.proofs.Common.{rules, ◌≡◌, refl, ap, ◌∙◌, length}
-use Rattle.dary_heap.specs.State.{front}
+use Rattle.dary_heap.proofs.Common.{rules, ◌≡◌, refl, ap, ◌∙◌, length, front}
 use Rattle.dary_heap.proofs.peek_mut.Loans.{lone_uncounted, lone_unexceeded, sunk_unmoved}
 use Rattle.dary_heap.proofs.sift.Written.{same_contents, written_back}
 use Rattle.dary_heap.proofs.peek_mut.PeekMut.drop.Goals as goal

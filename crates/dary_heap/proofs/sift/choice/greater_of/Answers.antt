@@ -1,4 +1,4 @@
-use Rattle.std.proofs.Common.{sym, ◌∙◌}
+use Rattle.dary_heap.proofs.Common.{sym, ◌∙◌}
 use Rattle.dary_heap.proofs.sift.Row.{joins-left, joins-right}
 use Rattle.dary_heap.proofs.sift.choice.greater_of.Goals as goal
 

@@ -1,5 +1,4 @@
-use Rattle.std.proofs.Common.{◌≡◌, ◌+◌, ◌*◌, ◌<◌, ap, refl, arith}
-use Rattle.dary_heap.specs.Choosing.{Chooses}
+use Rattle.dary_heap.proofs.Common.{◌≡◌, ◌+◌, ◌*◌, ◌<◌, ap, refl, arith, Chooses}
 use Rattle.dary_heap.proofs.sift.Choosing.{cut_row}
 use Rattle.dary_heap.proofs.Place.{no_whole_row}
 use Rattle.dary_heap.proofs.sift.Row.{greatest_of_one}

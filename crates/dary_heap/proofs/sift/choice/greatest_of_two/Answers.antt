@@ -1,5 +1,4 @@
-use Rattle.std.proofs.Common.{◌+◌, subst, arith}
-use Rattle.dary_heap.specs.Choosing.{IsGreatestAt}
+use Rattle.dary_heap.proofs.Common.{◌+◌, subst, arith, IsGreatestAt}
 use Rattle.dary_heap.proofs.sift.choice.greatest_of_two.Goals as goal
 
 pub returns-clause-chosen : goal.returns-clause-chosen

@@ -1,6 +1,4 @@
-use Rattle.std.proofs.Common.{◌+◌, length, refl, sym, subst, ◌∙◌, arith}
-use Rattle.std.proofs.lemmas.Option.{slice_get_read}
-use Rattle.dary_heap.specs.Sifting.{IsLastGreatest}
+use Rattle.dary_heap.proofs.Common.{◌+◌, length, refl, sym, subst, ◌∙◌, arith, slice_get_read, IsLastGreatest}
 use Rattle.dary_heap.proofs.sift.Row.{greatest_of_one, joins-left, joins-right}
 use Rattle.dary_heap.proofs.sift.choice.guessed.Goals as goal
 use Rattle.dary_heap.proofs.sift.choice.guessed.Goals.{then-at_most, else-at_most}

@@ -1,5 +1,4 @@
-use Rattle.std.proofs.Common.{◌≡◌, ◌+◌}
-use Rattle.dary_heap.specs.Sifting.{IsLastGreatest}
+use Rattle.dary_heap.proofs.Common.{◌≡◌, ◌+◌, IsLastGreatest}
 use Rattle.dary_heap.proofs.sift.choice.guessed.Given as goal
 
 abbrev pub invariant-loop-place : goal.invariant-loop-place

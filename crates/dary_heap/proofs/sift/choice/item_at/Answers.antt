@@ -1,5 +1,4 @@
-use Rattle.std.proofs.Common.{length, refl, arith}
-use Rattle.std.proofs.lemmas.Option.{slice_get_read}
+use Rattle.dary_heap.proofs.Common.{length, refl, arith, slice_get_read}
 use Rattle.dary_heap.proofs.sift.Row.{greatest_of_one}
 use Rattle.dary_heap.proofs.sift.choice.item_at.Goals as goal
 

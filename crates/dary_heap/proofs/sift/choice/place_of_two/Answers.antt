@@ -1,5 +1,4 @@
-use Rattle.std.proofs.Common.{◌≡◌, ℕ, ◌+◌, Bool, true, false, if◌then◌else◌, refl, arith}
-use mir.Val.{bool_byte}
+use Rattle.dary_heap.proofs.Common.{◌≡◌, ℕ, ◌+◌, Bool, true, false, if◌then◌else◌, refl, arith, bool_byte}
 use Rattle.dary_heap.proofs.sift.Row.{greatest_of_pair}
 use Rattle.dary_heap.proofs.sift.choice.place_of_two.Goals as goal
 

@@ -1,6 +1,4 @@
-use Rattle.std.proofs.Common.{subst}
-use Rattle.dary_heap.specs.Extending.{IsExtended}
-use Rattle.std.proofs.lemmas.List.{map-id}
+use Rattle.dary_heap.proofs.Common.{subst, IsExtended, map-id}
 use Rattle.dary_heap.proofs.heap.join.DaryHeapExtend.extend.Goals as goal
 
 pub returns-clause-ran : goal.returns-clause-ran

@@ -1,4 +1,4 @@
-use Rattle.std.proofs.Common.{◌∙◌}
+use Rattle.dary_heap.proofs.Common.{◌∙◌}
 use Rattle.dary_heap.proofs.iter.Iterating.{runs, runs_back}
 use Rattle.dary_heap.proofs.iter.owned.DaryHeapIntoIterator.into_iter.Goals as goal
 

@@ -1,4 +1,4 @@
-use Rattle.std.proofs.Common.{◌∙◌}
+use Rattle.dary_heap.proofs.Common.{◌∙◌}
 use Rattle.dary_heap.proofs.heap.Cloning.{clones_same}
 use Rattle.dary_heap.proofs.iter.owned.IntoIter.clone.Goals as goal
 

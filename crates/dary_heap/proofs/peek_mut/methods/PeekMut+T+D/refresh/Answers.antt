@@ -1,7 +1,4 @@
-use Rattle.std.proofs.Common.{rules, refl, ap, ◌≡◌, ◌∙◌, List, ◌++◌, length, take, arith}
-use Rattle.dary_heap.specs.Contents.{Contents}
-use Rattle.dary_heap.specs.HeapOrder.{IsHeapOrdered}
-use Rattle.std.proofs.lemmas.List.Sorted.{IsPermutation-refl, length_permutation}
+use Rattle.dary_heap.proofs.Common.{rules, refl, ap, ◌≡◌, ◌∙◌, List, ◌++◌, length, take, arith, Contents, IsHeapOrdered, IsPermutation-refl, length_permutation}
 use Rattle.dary_heap.proofs.sift.BelowRoot.{below_root}
 use Rattle.dary_heap.proofs.Fronts.{ordered_state}
 use Rattle.dary_heap.proofs.peek_mut.Loans.{lone_uncounted, lone_unexceeded, none_exceeds, sunk_moved, sunk_unmoved}

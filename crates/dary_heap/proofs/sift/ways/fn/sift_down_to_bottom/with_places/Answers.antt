@@ -1,7 +1,4 @@
-use Rattle.std.proofs.Common.{◌≡◌, List, length, subst, ap, ◌∙◌}
-use Rattle.std.proofs.lemmas.List.Sorted.{length_permutation}
-use Rattle.dary_heap.specs.Hole.{filled}
-use Rattle.dary_heap.specs.Moving.{SiftsToBottom}
+use Rattle.dary_heap.proofs.Common.{◌≡◌, List, length, subst, ap, ◌∙◌, length_permutation, filled, SiftsToBottom}
 use Rattle.dary_heap.proofs.hole.Holes.{refilled}
 use Rattle.dary_heap.proofs.sift.ways.fn.sift_down_to_bottom.with_places.Goals as goal
 use Rattle.dary_heap.proofs.sift.ways.fn.sift_down_to_bottom.with_places.Goals.{then-guesses, else-guesses}

@@ -1,8 +1,4 @@
-use Rattle.std.proofs.Common.{◌≢◌, ◌<◌, List, length, subst, sym, ap, ◌∙◌, arith}
-use Rattle.std.proofs.lemmas.List.Sorted.{length_permutation}
-use Rattle.std.proofs.lemmas.List.Edits.{length-swap}
-use Rattle.std.specs.List.{swap}
-use Rattle.dary_heap.specs.Moving.{SiftsUp}
+use Rattle.dary_heap.proofs.Common.{◌≢◌, ◌<◌, List, length, subst, sym, ap, ◌∙◌, arith, length_permutation, length-swap, swap, SiftsUp}
 use Rattle.dary_heap.proofs.hole.Holes.{refilled, move_swaps}
 use Rattle.dary_heap.proofs.sift.ways.fn.sift_up.with_places.Goals as goal
 
