@@ -1,5 +1,6 @@
-use Rattle.dary_heap.proofs.Common.{rules, ◌≡◌, refl, ap, ◌∙◌, length, front}
+use Rattle.dary_heap.proofs.Common.{IsPermutation-refl, length_permutation, rules, ◌≡◌, refl, ap, ◌∙◌, length, front}
 use Rattle.dary_heap.proofs.peek_mut.Loans.{lone_uncounted, lone_unexceeded, sunk_unmoved}
+use Rattle.dary_heap.proofs.sift.Uncounted.{none_counted}
 use Rattle.dary_heap.proofs.sift.Written.{same_contents, written_back}
 use Rattle.dary_heap.proofs.peek_mut.PeekMut.drop.Goals as goal
 use Rattle.dary_heap.proofs.peek_mut.PeekMut.drop.Goals.{then-written, else-written}
@@ -8,34 +9,25 @@ pub returns-clause-unmoved : goal.returns-clause-unmoved
 returns-clause-unmoved g c = λ none.
     ap (λ v. v.items) c.swap.ensures.x_after ∙ (elim c.if-written.branch [
       | then-written w ↦
+          let zs = w.sink_with.new.items in
+          let all : length zs ≡ c.into_vec-items.result.len = w.sink_with.auto.items ∙ w.as_mut_slice.ensures.len in
           let is = w.as_mut_slice.ensures.value ∙ c.into_vec-items.ensures.items in
-          let all = w.sink_with.auto.items ∙ w.as_mut_slice.ensures.len in
-          rw (w.items-is, written_back _ _ _ all) (sunk_unmoved g.row.D _ w.sink_with.new.items _ (rw is at w.sink_with.ensures.moved) (rw is at w.sink_with.ensures.unchanged) none)
+          rw (w.items-is, written_back _ zs _ all) (sunk_unmoved g.row.D _ zs _ (rw is at w.sink_with.ensures.moved) (rw is at w.sink_with.ensures.unchanged) none)
       | else-written w ↦ rw w.items-is c.into_vec-items.ensures.items
     ])
 
 pub returns-clause-first : goal.returns-clause-first
 returns-clause-first g c = λ none. ap front (returns-clause-unmoved g c none)
 
-pub invariant_of-heap : goal.invariant_of-heap
-invariant_of-heap g c =
-    let lent = c.args.self.lent in
-    rw c.swap.ensures.x_after (elim c.if-written.branch [
-      | then-written w ↦
-          let is = w.as_mut_slice.ensures.value ∙ c.into_vec-items.ensures.items in
-          let all = w.sink_with.auto.items ∙ w.as_mut_slice.ensures.len in
-          rw (w.items-is, written_back _ _ _ all) ((rw is at w.sink_with.ensures.ordered) lent.below_root)
-      | else-written w ↦ rw (w.items-is, c.into_vec-items.ensures.items) (lent.whole w.if-written.false)
-    ])
-
 pub returns-clause-ordered : goal.returns-clause-ordered
 returns-clause-ordered g c =
     let lent = c.args.self.lent in
     rw c.swap.ensures.x_after (elim c.if-written.branch [
       | then-written w ↦
+          let zs = w.sink_with.new.items in
+          let all : length zs ≡ c.into_vec-items.result.len = w.sink_with.auto.items ∙ w.as_mut_slice.ensures.len in
           let is = w.as_mut_slice.ensures.value ∙ c.into_vec-items.ensures.items in
-          let all = w.sink_with.auto.items ∙ w.as_mut_slice.ensures.len in
-          rw (w.items-is, written_back _ _ _ all) ((rw is at w.sink_with.ensures.ordered) lent.below_root)
+          rw (w.items-is, written_back _ zs _ all) ((rw is at w.sink_with.ensures.ordered) lent.below_root)
       | else-written w ↦ rw (w.items-is, c.into_vec-items.ensures.items) (lent.whole w.if-written.false)
     ])
 
@@ -43,3 +35,55 @@ pub returns-clause-alone : goal.returns-clause-alone
 returns-clause-alone g c = λ one.
     let still = returns-clause-unmoved g c (lone_unexceeded g.T.Ord.cmp _ one) in
     same_contents _ _ still (search rules) (lone_uncounted g.row.D _ _ _ one (search rules))
+
+pub invariant_of-heap : goal.invariant_of-heap
+invariant_of-heap g c =
+    let lent = c.args.self.lent in
+    rw c.swap.ensures.x_after (elim c.if-written.branch [
+      | then-written w ↦
+          let zs = w.sink_with.new.items in
+          let all : length zs ≡ c.into_vec-items.result.len = w.sink_with.auto.items ∙ w.as_mut_slice.ensures.len in
+          let is = w.as_mut_slice.ensures.value ∙ c.into_vec-items.ensures.items in
+          rw (w.items-is, written_back _ zs _ all) ((rw is at w.sink_with.ensures.ordered) lent.below_root)
+      | else-written w ↦ rw (w.items-is, c.into_vec-items.ensures.items) (lent.whole w.if-written.false)
+    ])
+
+pub returns-clause-bag : goal.returns-clause-bag
+returns-clause-bag g c = rw c.swap.ensures.x_after (elim c.if-written.branch [
+  | then-written w ↦
+      let zs = w.sink_with.new.items in
+      let all : length zs ≡ c.into_vec-items.result.len = w.sink_with.auto.items ∙ w.as_mut_slice.ensures.len in
+      let is = w.as_mut_slice.ensures.value ∙ c.into_vec-items.ensures.items in
+      rw (w.items-is, written_back _ zs _ all) (rw is at w.sink_with.ensures.bag)
+  | else-written w ↦ rw (w.items-is, c.into_vec-items.ensures.items) (IsPermutation-refl _)
+])
+
+pub returns-clause-counted : goal.returns-clause-counted
+returns-clause-counted g c = rw (← c.heap.view_is) (elim c.if-written.branch [
+  | then-written w ↦ rw w.heap-inside-is (rw (w.as_mut_slice.ensures.value, c.into_vec-items.ensures.items) at w.sink_with.ensures.counted)
+  | else-written w ↦ rw w.heap-inside-is (none_counted _ _)
+])
+
+pub returns-clause-tight : goal.returns-clause-tight
+returns-clause-tight g c = rw (← c.heap.view_is) (elim c.if-written.branch [
+  | then-written w ↦ rw w.heap-inside-is (rw (w.as_mut_slice.ensures.value, c.into_vec-items.ensures.items) at w.sink_with.ensures.tight)
+  | else-written w ↦ rw w.heap-inside-is (none_counted _ _)
+])
+
+pub returns-clause-len : goal.returns-clause-len
+returns-clause-len g c = length_permutation _ _ (returns-clause-bag g c)
+
+pub returns-clause-capacity : goal.returns-clause-capacity
+returns-clause-capacity g c = rw c.swap.ensures.x_after (elim c.if-written.branch [
+  | then-written w ↦ rw w.items-is c.into_vec-items.ensures.capacity
+  | else-written w ↦ rw w.items-is c.into_vec-items.ensures.capacity
+])
+
+pub returns-clause-unwritten : goal.returns-clause-unwritten
+returns-clause-unwritten g c = λ settled. rw c.swap.ensures.x_after (elim c.if-written.branch [
+  | then-written w ↦ let is = w.if-written.true in cc
+  | else-written w ↦ same_contents _ _ (rw w.items-is c.into_vec-items.ensures.items) (rw w.items-is c.into_vec-items.ensures.capacity) (rw (w.heap-inside-is, ← c.heap.view_is) refl)
+])
+
+pub invariant_of-self : goal.invariant_of-self
+invariant_of-self g c = record { lent = c.args.self.lent }
