@@ -1,4 +1,4 @@
-"""The links of Markdown files."""
+"""The links of Markdown files, and what is told of faults."""
 import re
 
 FENCE = re.compile(r"^```(\w*)\n(.*?)^```$", re.M | re.S)
@@ -17,16 +17,27 @@ def anchors(path):
     return found
 
 
-def follow(path, top):
-    """Follows the relative links of a document. Returns how many there are, and what is wrong: each has to name a file or a
-    folder below `top`, and its anchor a heading."""
-    links = [it for it in LINK.findall(FENCE.sub("", path.read_text(encoding="utf-8"))) if not re.match(r"[a-z]+:", it)]
-    faults = []
-    for target in links:
-        name, _, anchor = target.partition("#")
-        there = (path.parent / name).resolve() if name else path
-        if not there.exists() or not there.is_relative_to(top):
-            faults.append(f"{path.relative_to(top)}: there is no {target}")
-        elif anchor and there.suffix == ".md" and anchor not in anchors(there):
-            faults.append(f"{path.relative_to(top)}: {name or 'the page'} has no heading #{anchor}")
-    return len(links), faults
+def follow(path, target, top):
+    """Returns what is wrong with a link of a document, if anything is: it has to name a file or a folder below `top`, and its
+    anchor a heading."""
+    name, _, anchor = target.partition("#")
+    there = (path.parent / name).resolve() if name else path
+    if not there.exists() or not there.is_relative_to(top):
+        return f"{path.relative_to(top)}: there is no {target}"
+    if anchor and there.suffix == ".md" and anchor not in anchors(there):
+        return f"{path.relative_to(top)}: {name or 'the page'} has no heading #{anchor}"
+
+
+def follow_all(pages, top):
+    """Returns of each relative link of these documents what is wrong with it, or None."""
+    links = [(page, it) for page in pages for it in LINK.findall(FENCE.sub("", page.read_text(encoding="utf-8")))]
+    return [follow(page, it, top) for page, it in links if not re.match(r"[a-z]+:", it)]
+
+
+def told(summary, *checked):
+    """Prints the faults of what was checked, a fault or None each, and how many there are. Returns the status to end with."""
+    faults = [it for found in checked for it in found if it]
+    for fault in faults:
+        print(f"FAILED: {fault}")
+    print(f"{summary}, {len(faults)} faults")
+    return 1 if faults else 0

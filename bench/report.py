@@ -11,12 +11,16 @@ names in BLOCKS, writes pop.svg and speed.svg into the folder, and prints the ta
 import io
 import math
 import sys
+from collections import defaultdict
+from pathlib import Path
+from statistics import geometric_mean
 
 import matplotlib
 
 matplotlib.use("svg")
 import matplotlib.pyplot as plt
 from matplotlib.ticker import LogLocator, NullFormatter
+from numpy import fmin
 
 # The workloads on numbers, with their names in the tables.
 NUMBERS = {
@@ -39,7 +43,6 @@ NUMBERS = {
 KINDS = {"entries": "16 bytes", "records": "64 bytes", "strings": "strings"}
 CALLS = {"build": "build", "push": "push", "pop": "pop", "churn": "push and pop by turns"}
 WIDE = {f"{call}_{kind}": f"{name}, {of}" for kind, of in KINDS.items() for call, name in CALLS.items()}
-SEARCH = "shortest_path"
 # Those of the picture by arity, and those of README with their sizes.
 DRAWN = ["push_random", "pop", "churn", "build"]
 SHOWN = ["pop", "push_random", "build"]
@@ -54,65 +57,67 @@ OTHERS = {
     "cpp": "std::priority_queue",
     "boost": "boost",
 }
+# Those that have an arity; the others have arity 2.
+AT_ARITIES = ("here", "crate")
 # A time within this factor of the quickest is as good.
 ABOUT = 1.03
 
 
-class Line:
-    """A line of the program. What isn't there is None."""
-
-    def __init__(self, heads, words):
-        cells = dict(zip(heads, words))
-        self.workload = cells.pop("workload")
-        self.arity, self.items = int(cells.pop("arity")), int(cells.pop("items"))
-        self.cells = {head: None if word == "-" else float(word) for head, word in cells.items()}
-
-    def over(self, who):
-        """This heap's time over that of another."""
-        here, other = self.time("here"), self.time(who)
-        return None if here is None or other is None else here / other
-
-    def take(self, other):
-        """Takes the times of another run that are less."""
-        for head in self.cells:
-            times = [time for time in (self.cells[head], other.cells[head]) if time is not None]
-            if head.endswith("_ns") and times:
-                self.cells[head] = min(times)
-
-    def time(self, who):
-        """The nanoseconds of an item."""
-        return self.cells[f"{who}_ns"]
-
-    def comparisons(self):
-        return self.cells["here_comparisons"]
-
-
 def lines_of(path):
-    """The lines by workload, items and arity, and what was left out. A fault ends this script."""
-    with open(path, encoding="utf-8") as file:
-        texts = [text.strip() for text in file if text.strip()]
+    """The cells of each line by workload, items and arity, and what was left out. A dash becomes a NaN."""
+    texts = Path(path).read_text(encoding="utf-8").splitlines()
     faults = [text for text in texts if text.startswith("FAULT")]
     if faults:
         sys.exit("\n".join(faults))
     left_out = [text.removeprefix("# left out: ") for text in texts if text.startswith("# left out: ")]
-    heads, *rows = [text.split() for text in texts if not text.startswith("#")]
-    lines = [Line(heads, row) for row in rows if row != heads]
-    return {(line.workload, line.items, line.arity): line for line in lines}, left_out
-
-
-def least_of(paths):
-    """The lines of runs with the least times, and what one of them left out."""
-    (lines, left_out), *others = map(lines_of, paths)
-    for more, also in others:
-        left_out += [it for it in also if it not in left_out]
-        for key in lines.keys() & more.keys():
-            lines[key].take(more[key])
+    heads, *rows = [text.split() for text in texts if text.strip() and not text.startswith("#")]
+    lines = {}
+    for row in rows:
+        if row != heads:
+            workload, arity, items, *cells = (math.nan if word == "-" else word for word in row)
+            lines[workload, int(items), int(arity)] = dict(zip(heads[3:], map(float, cells)))
     return lines, left_out
 
 
-def mean(numbers):
-    """The geometric mean."""
-    return math.exp(sum(map(math.log, numbers)) / len(numbers))
+class Report:
+    """The lines of runs with the least times, and what one of them left out."""
+
+    def __init__(self, paths):
+        (lines, self.left_out), *others = map(lines_of, paths)
+        for more, also in others:
+            self.left_out += [it for it in also if it not in self.left_out]
+            for key in lines.keys() & more.keys():
+                times = {head: time for head, time in more[key].items() if head.endswith("_ns")}
+                lines[key].update({head: fmin(time, lines[key][head]) for head, time in times.items()})
+        # The lines of each workload and size, by rising arity.
+        self.groups = defaultdict(lambda: defaultdict(list))
+        for workload, items, arity in sorted(lines):
+            self.groups[workload][items].append(lines[workload, items, arity])
+        self.arities = sorted({arity for workload, _, arity in lines if workload == "pop"})
+
+    def ratios(self, workloads, who):
+        """This heap's times over those of another, in all lines of these workloads that have both."""
+        groups = [group for workload in workloads for group in self.groups[workload].values()]
+        return [ratio for group in groups for ratio in there(over(line, who) for line in group)]
+
+    def pops(self, arity, who):
+        """The times of a pop by size."""
+        at = self.arities.index(arity)
+        return {items: group[at][f"{who}_ns"] for items, group in self.groups["pop"].items()}
+
+    def best_arity(self, who):
+        """The arity whose pops take the least time on the mean of the sizes."""
+        return min(self.arities, key=lambda arity: geometric_mean(self.pops(arity, who).values()))
+
+
+def over(line, who):
+    """This heap's time over that of another."""
+    return line["here_ns"] / line[f"{who}_ns"]
+
+
+def there(numbers):
+    """The numbers without those that aren't there."""
+    return [number for number in numbers if not math.isnan(number)]
 
 
 def listed(words):
@@ -121,33 +126,20 @@ def listed(words):
     return f"{', '.join(first)} and {last}" if first else last
 
 
-def sizes_of(lines, workload):
-    return sorted({items for name, items, _ in lines if name == workload})
-
-
-def arities_of(lines):
-    return sorted({arity for workload, _, arity in lines if workload != SEARCH})
-
-
-def at_arities(lines, workload, items):
-    """The lines of a workload at a size, by rising arity."""
-    return [lines[workload, items, arity] for arity in arities_of(lines)]
-
-
 def power(items):
     """The number as a power of ten, or as a multiple of one, if it is that."""
     digits = str(items)
     factor = digits.rstrip("0")
     if len(factor) > 1 or len(digits) < 3:
         return f"{items:,}"
-    exponent = "".join("⁰¹²³⁴⁵⁶⁷⁸⁹"[int(digit)] for digit in str(len(digits) - 1))
+    exponent = str(len(digits) - 1).translate(str.maketrans("0123456789", "⁰¹²³⁴⁵⁶⁷⁸⁹"))
     return f"10{exponent}" if factor == "1" else f"{factor}·10{exponent}"
 
 
 # The tables.
 
 
-def rows_of(heads, rows, words=2):
+def table(heads, rows, words=2):
     """A table in Markdown. The first columns are words."""
     marks = ["---"] * words + ["--:"] * (len(heads) - words)
     return "\n".join(f"|{'|'.join(row)}|" for row in [heads, marks, *rows])
@@ -158,253 +150,191 @@ def heads_of(name, arities):
 
 
 def ratio_cells(group, who):
-    """The ratios at each arity, the quickest in bold."""
-    ratios = [line.over(who) for line in group]
-    if None in ratios:
-        return ["" if ratio is None else f"{ratio:.2f}" for ratio in ratios]
-    least = min(line.time("here") for line in group)
-    quick = [line.time("here") <= least * ABOUT for line in group]
-    return [f"**{ratio:.2f}**" if is_quick else f"{ratio:.2f}" for ratio, is_quick in zip(ratios, quick)]
+    """The ratios at each arity, the quickest in bold. Beside the crate their mean follows."""
+    ratios = [over(line, who) for line in group]
+    found = there(ratios)
+    cells = ["" if math.isnan(ratio) else f"{ratio:.2f}" for ratio in ratios]
+    if found == ratios:
+        most = min(line["here_ns"] for line in group) * ABOUT
+        cells = [f"**{cell}**" if line["here_ns"] <= most else cell for cell, line in zip(cells, group)]
+    if who == "crate":
+        cells.append(f"{geometric_mean(found):.2f}" if found else "")
+    return cells
 
 
-def ratios(lines, workloads):
-    """A row a workload and size. For each other heap the ratios by arity, and their mean over the crate."""
-    arities = arities_of(lines)
-    shown = of_tables(lines, workloads)
-    others = [who for who in OTHERS if any(line.over(who) is not None for line in shown)]
+def ratios(report, workloads):
+    """A row a workload and size. For each other heap the ratios by arity."""
+    others = [who for who in OTHERS if report.ratios(workloads, who)]
     heads = ["", "items"]
     for who in others:
-        heads += heads_of(f"over {OTHERS[who]}", arities) + (["mean"] if who == "crate" else [])
-    rows = []
-    for workload, name in workloads.items():
-        for items in sizes_of(lines, workload):
-            group = at_arities(lines, workload, items)
-            row = [name, power(items)]
-            for who in others:
-                row += ratio_cells(group, who)
-                if who == "crate":
-                    row.append(mean_of(over(group)))
-            rows.append(row)
-    return rows_of(heads, rows)
-
-
-def over(lines, who="crate"):
-    """The ratios that are there."""
-    return [line.over(who) for line in lines if line.over(who) is not None]
-
-
-def mean_of(numbers):
-    """The mean in a cell. It is empty without a number."""
-    return f"{mean(numbers):.2f}" if numbers else ""
-
-
-def of_tables(lines, workloads):
-    return [line for line in lines.values() if line.workload in workloads]
-
-
-def comparisons(lines):
-    """The comparisons an item."""
+        heads += heads_of(f"over {OTHERS[who]}", report.arities) + ["mean"] * (who == "crate")
     rows = [
-        [name, *(f"{line.comparisons():.2f}" for line in at_arities(lines, workload, COMPARED))]
-        for workload, name in NUMBERS.items()
-        if COMPARED in sizes_of(lines, workload)
+        [name, power(items), *(cell for who in others for cell in ratio_cells(group, who))]
+        for workload, name in workloads.items()
+        for items, group in report.groups[workload].items()
     ]
-    return rows_of(["", *heads_of("arity", arities_of(lines))], rows)
+    return table(heads, rows)
 
 
-def summary(lines):
+def comparisons(report):
+    """The comparisons an item."""
+    groups = {name: report.groups[workload][COMPARED] for workload, name in NUMBERS.items()}
+    rows = [[name, *(f"{line['here_comparisons']:.2f}" for line in group)] for name, group in groups.items()]
+    return table(["", *heads_of("arity", report.arities)], rows)
+
+
+def summary(report):
     """What the table of numbers comes to, and the search."""
     texts = []
     for who in ("crate", "rattle_std"):
-        found = over(of_tables(lines, NUMBERS), who)
+        found = report.ratios(NUMBERS, who)
         texts.append(
-            f"Over the {len(found)} figures beside {OTHERS[who]} the mean is {mean(found):.2f}, "
+            f"Over the {len(found)} figures beside {OTHERS[who]} the mean is {geometric_mean(found):.2f}, "
             f"the least {min(found):.2f} and the greatest {max(found):.2f}."
         )
-    searches = of_tables(lines, [SEARCH])
-    if searches:
-        edges = listed([power(line.items) for line in searches])
-        crate, std = (listed([f"{line.over(who):.2f}" for line in searches]) for who in ("crate", "std"))
-        texts.append(
-            f"A search for a cheapest walk among {edges} edges takes {crate} of its time "
-            f"over the crate's heap, and {std} of that over Rust's std."
-        )
+    edges = listed(map(power, report.groups["shortest_path"]))
+    crate, std = (
+        listed(f"{ratio:.2f}" for ratio in report.ratios(["shortest_path"], who)) for who in ("crate", "std")
+    )
+    texts.append(
+        f"A search for a cheapest walk among {edges} edges takes {crate} of its time "
+        f"over the crate's heap, and {std} of that over Rust's std."
+    )
     return " ".join(texts)
 
 
-def by_kind(lines):
+def by_kind(report):
     """What the table of wider items comes to, for each kind."""
     texts = []
     for kind, name in KINDS.items():
-        found = over(of_tables(lines, [f"{call}_{kind}" for call in CALLS]))
-        texts.append(f"{mean(found):.2f} ({min(found):.2f} to {max(found):.2f}) for {name}")
+        found = report.ratios([f"{call}_{kind}" for call in CALLS], "crate")
+        texts.append(f"{geometric_mean(found):.2f} ({min(found):.2f} to {max(found):.2f}) for {name}")
     return f"On the mean the time is {listed(texts)} of the crate's."
 
 
-def best_arity(lines, who):
-    """The arity whose pops take the least time on the mean of the sizes."""
-    sizes = sizes_of(lines, "pop")
-    return min(arities_of(lines), key=lambda arity: mean([lines["pop", items, arity].time(who) for items in sizes]))
+def pop_series(report):
+    """For each line of the picture: its name, whose it is, its dashes, and the times by size."""
+    best, of_crate = report.best_arity("here"), report.best_arity("crate")
+    series = {
+        f"this heap, arity {best}": ("here", best, "-"),
+        "this heap, arity 2": ("here", 2, "-" if best == 2 else "--"),
+        f"the Rust crate, arity {of_crate}": ("crate", of_crate, "-"),
+        "Rattle's std, arity 2": ("rattle_std", 2, "-"),
+        "Rust's std, arity 2": ("std", 2, "-"),
+        "std::priority_queue": ("cpp", 2, "-"),
+    }
+    lines = [(name, who, dashes, report.pops(arity, who)) for name, (who, arity, dashes) in series.items()]
+    return [line for line in lines if there(line[3].values())]
 
 
-def pop_series(lines):
-    """For each line of the picture: its name, its colour, its dashes, and the times by size."""
-    best, of_crate = best_arity(lines, "here"), best_arity(lines, "crate")
-    series = [
-        (f"this heap, arity {best}", "#2f81f7", "-", best, "here"),
-        ("this heap, arity 2", "#2f81f7", "--", 2, "here"),
-        (f"the Rust crate, arity {of_crate}", "#d4720b", "-", of_crate, "crate"),
-        ("Rattle's std, arity 2", "#3fa45b", "-", 2, "rattle_std"),
-        ("Rust's std, arity 2", "#8b949e", "-", 2, "std"),
-        ("std::priority_queue", "#a371f7", "-", 2, "cpp"),
-    ]
-    # Twice the same line, if arity 2 is the best.
-    if best == 2:
-        del series[1]
-    for name, colour, dashes, arity, who in series:
-        times = {items: lines["pop", items, arity].time(who) for items in sizes_of(lines, "pop")}
-        if None not in times.values():
-            yield name, colour, dashes, times
-
-
-def pops(lines):
+def pops(report):
     """The nanoseconds of a pop: those of the picture, and then each arity."""
-    series = list(pop_series(lines))
-    arities = arities_of(lines)
-    heads = ["items", *(name for name, *_ in series), *heads_of("this heap, arity", arities)]
-    heads += heads_of("the crate, arity", arities)
-    rows = []
-    for items in sizes_of(lines, "pop"):
-        row = [power(items), *(f"{times[items]:.0f}" for *_, times in series)]
-        for who in ("here", "crate"):
-            row += [f"{line.time(who):.0f}" for line in at_arities(lines, "pop", items)]
-        rows.append(row)
-    return rows_of(heads, rows, words=0)
+    series = pop_series(report)
+    heads = ["items", *(name for name, *_ in series), *heads_of("this heap, arity", report.arities)]
+    heads += heads_of("the crate, arity", report.arities)
+    columns = [times for *_, times in series]
+    columns += [report.pops(arity, who) for who in AT_ARITIES for arity in report.arities]
+    rows = [[power(items), *(f"{times[items]:.0f}" for times in columns)] for items in columns[0]]
+    return table(heads, rows, words=0)
 
 
 BLOCKS = {
     "pops": pops,
-    "numbers": lambda lines: ratios(lines, NUMBERS),
+    "numbers": lambda report: ratios(report, NUMBERS),
     "summary": summary,
-    "wider items": lambda lines: ratios(lines, WIDE),
+    "wider items": lambda report: ratios(report, WIDE),
     "summary of wider items": by_kind,
     "comparisons": comparisons,
+    "left out": lambda report: f"Left out in this run: {listed(report.left_out)}."
+    if report.left_out
+    else "No heap was left out in this run.",
 }
 
 
-def filled(text, name, block):
-    """The text with the block between its marks."""
-    first, last = f"<!-- {name} -->\n", f"<!-- end of {name} -->"
-    before, rest = text.split(first)
-    return f"{before}{first}\n{block}\n\n{last}{rest.split(last)[1]}"
-
-
-def fill(path, lines, left_out):
-    with open(path, encoding="utf-8") as file:
-        text = file.read()
+def fill(path, report):
+    """Fills what stands between the marks."""
+    text = path.read_text(encoding="utf-8")
     for name, make in BLOCKS.items():
-        text = filled(text, name, make(lines))
-    note = f"Left out in this run: {listed(left_out)}." if left_out else "No heap was left out in this run."
-    text = filled(text, "left out", note)
-    with open(path, "w", encoding="utf-8") as file:
-        file.write(text)
+        first, last = f"<!-- {name} -->\n", f"<!-- end of {name} -->"
+        before, rest = text.split(first)
+        text = f"{before}{first}\n{make(report)}\n\n{last}{rest.split(last)[1]}"
+    path.write_text(text, encoding="utf-8")
 
 
-def nanoseconds(time):
-    if time is None:
-        return ""
-    return f"{time:.1f}" if time < 10 else f"{time:.0f}"
-
-
-def of_readme(lines):
+def of_readme(report):
     """The nanoseconds of an item, like beside like: at arity 2 and 4, and of heaps of arity 2."""
     heads = ["", "numbers", *heads_of("this heap, arity", [2, 4]), *heads_of("the Rust crate, arity", [2, 4])]
     rows = []
     for workload in SHOWN:
         for items in SHOWN_SIZES:
-            two, four = lines[workload, items, 2], lines[workload, items, 4]
-            times = [line.time(who) for who in ("here", "crate") for line in (two, four)]
-            times += [two.time("rattle_std"), two.time("cpp")]
-            rows.append([NUMBERS[workload], power(items), *map(nanoseconds, times)])
-    return rows_of([*heads, "std's `BinaryHeap`", "`std::priority_queue`"], rows)
+            two, four = (report.groups[workload][items][report.arities.index(arity)] for arity in (2, 4))
+            times = [line[f"{who}_ns"] for who in AT_ARITIES for line in (two, four)]
+            times += [two["rattle_std_ns"], two["cpp_ns"]]
+            cells = ["" if math.isnan(time) else f"{time:.{int(time < 10)}f}" for time in times]
+            rows.append([NUMBERS[workload], power(items), *cells])
+    return table([*heads, "std's `BinaryHeap`", "`std::priority_queue`"], rows)
 
 
 # The pictures.
 
-STYLE = {
-    "svg.fonttype": "none",
-    "svg.hashsalt": "dary_heap",
-    "font.family": "sans-serif",
-    "axes.spines.right": False,
-    "axes.spines.top": False,
-    "grid.alpha": 0.35,
-    "lines.marker": "o",
-    "lines.markersize": 4,
-} | dict.fromkeys(["text.color", "axes.edgecolor", "axes.labelcolor", "xtick.color", "ytick.color"], "#717a84")
-
-# Whose times are drawn by arity.
-SERIES = {
-    "here": ("this heap", "#2f81f7", "-"),
-    "crate": ("the Rust crate", "#d4720b", "--"),
-    "rattle_std": ("Rattle's std, of arity 2", "#3fa45b", ":"),
-    "std": ("Rust's std, of arity 2", "#7f8a96", ":"),
-}
+# Text is grey, to be read on white and on black.
+STYLE = {"svg.fonttype": "none", "svg.hashsalt": "dary_heap", "grid.alpha": 0.35}
+STYLE |= {"axes.grid": True, "axes.grid.axis": "y"}
+STYLE |= dict.fromkeys(["text.color", "axes.edgecolor", "axes.labelcolor", "xtick.color", "ytick.color"], "#717a84")
+COLOURS = {"here": "C0", "crate": "C1", "rattle_std": "C2", "std": "C7", "cpp": "C4"}
 
 
-def pop_picture(lines):
+def pop_picture(report):
     """The times of a pop by the number of items. Both axes are logarithmic."""
     figure, axes = plt.subplots(figsize=(9, 4.3))
     # In the order of their ends.
-    for name, colour, dashes, times in sorted(pop_series(lines), key=lambda one: -max(one[3].items())[1]):
-        axes.plot(list(times), list(times.values()), dashes, color=colour, label=name)
+    for name, who, dashes, times in sorted(pop_series(report), key=lambda one: -max(one[3].items())[1]):
+        axes.plot(list(times), list(times.values()), dashes, color=COLOURS[who], label=name)
     axes.set(xscale="log", yscale="log", xlabel="items, of 8 bytes", ylabel="nanoseconds of a pop")
-    axes.yaxis.set_major_locator(LogLocator(subs=(1, 2, 5)))
-    axes.yaxis.set_major_formatter("{x:,.0f}")
-    axes.yaxis.set_minor_formatter(NullFormatter())
-    axes.grid(axis="y")
+    axes.yaxis.set(major_locator=LogLocator(subs=(1, 2, 5)), major_formatter="{x:,.0f}")
+    axes.yaxis.set(minor_formatter=NullFormatter())
     axes.legend(loc="center left", bbox_to_anchor=(1, 0.5), frameon=False)
     return figure
 
 
-def draw_by_arity(axes, group):
-    arities = [line.arity for line in group]
-    for who, (name, colour, dashes) in SERIES.items():
-        has_arity = who in ("here", "crate")
-        times = [(line if has_arity else group[0]).time(who) for line in group]
-        axes.plot(arities, times, dashes, color=colour, label=name, marker="o" if has_arity else "")
-    axes.set(xticks=arities, xlabel="arity", ylim=(0, None))
-    axes.grid(axis="y")
-
-
-def arity_picture(lines):
+def arity_picture(report):
     """The times by arity, at the least and the greatest size that all have."""
-    sizes = set.intersection(*(set(sizes_of(lines, workload)) for workload in DRAWN))
+    sizes = set.intersection(*(set(report.groups[workload]) for workload in DRAWN))
     rows = sorted({min(sizes), max(sizes)})
-    figure, panels = plt.subplots(len(rows), len(DRAWN), figsize=(9, 2.6 * len(rows)), squeeze=False)
+    figure, panels = plt.subplots(len(rows), len(DRAWN), figsize=(9, 2.6 * len(rows)), squeeze=False, layout="tight")
     for items, row in zip(rows, panels):
         row[0].set_ylabel(f"{items:,} items: ns each")
         for workload, axes in zip(DRAWN, row):
-            axes.set_title(NUMBERS[workload], fontsize="medium", fontweight="bold")
-            draw_by_arity(axes, at_arities(lines, workload, items))
-    figure.legend(*panels[0][0].get_legend_handles_labels(), loc="upper left", ncols=len(SERIES), frameon=False)
-    figure.tight_layout(rect=(0, 0, 1, 0.94))
+            axes.set_title(NUMBERS[workload], fontsize="medium")
+            draw_by_arity(axes, report.arities, report.groups[workload][items])
+    figure.legend(*panels[0][0].get_legend_handles_labels(), loc="lower left", bbox_to_anchor=(0, 1), ncols=4)
     return figure
+
+
+def draw_by_arity(axes, arities, group):
+    for who in AT_ARITIES:
+        name = "this heap" if who == "here" else "the Rust crate"
+        axes.plot(arities, [line[f"{who}_ns"] for line in group], "o-", color=COLOURS[who], label=name)
+    for who in ("rattle_std", "std"):
+        name = f"{OTHERS[who]}, of arity 2"
+        axes.axhline(group[0][f"{who}_ns"], linestyle=":", color=COLOURS[who], label=name)
+    axes.set(xticks=arities, xlabel="arity", ylim=(0, None))
 
 
 def main():
     if len(sys.argv) < 4:
         sys.exit(__doc__)
     *paths, speed, folder = sys.argv[1:]
-    lines, left_out = least_of(paths)
-    fill(speed, lines, left_out)
+    report = Report(paths)
+    fill(Path(speed), report)
     with plt.rc_context(STYLE):
         for name, draw in {"pop.svg": pop_picture, "speed.svg": arity_picture}.items():
             picture = io.StringIO()
-            draw(lines).savefig(picture, format="svg", transparent=True, bbox_inches="tight", metadata={"Date": None})
-            with open(f"{folder}/{name}", "w", encoding="utf-8") as file:
-                # Its lines carry nothing.
-                file.write(" ".join(picture.getvalue().split()) + "\n")
-    print(of_readme(lines))
+            draw(report).savefig(picture, format="svg", transparent=True, bbox_inches="tight", metadata={"Date": None})
+            # Its lines carry nothing.
+            text = " ".join(picture.getvalue().split()) + "\n"
+            Path(folder, name).write_text(text, encoding="utf-8")
+    print(of_readme(report))
 
 
 if __name__ == "__main__":

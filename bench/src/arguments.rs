@@ -1,17 +1,28 @@
 //! What the user asks for.
 
-use crate::workload::{SEARCH, WORKLOADS};
+use crate::workload::{Line, Workload, WORKLOADS};
 
 pub const USAGE: &str =
     "usage: dary_heap_bench [--arities 2,3,4,8] [--sizes N,..] [--rounds 9] [WORKLOAD..]
 An arity is 1 to 8, and a size 1 to 100000000.";
 
 pub struct Wanted {
-    pub arities: Vec<usize>,
+    arities: Vec<usize>,
     /// None if each workload has its own.
-    pub sizes: Option<Vec<usize>>,
+    sizes: Option<Vec<usize>>,
     pub rounds: usize,
-    pub workloads: Vec<String>,
+    workloads: Vec<&'static Workload>,
+}
+
+impl Wanted {
+    /// The lines of each workload, at each arity and size.
+    pub fn lines(&self) -> impl Iterator<Item = Line> + '_ {
+        self.workloads.iter().flat_map(|workload| {
+            let sizes = self.sizes.as_deref().unwrap_or(workload.sizes);
+            let arities = self.arities.iter().filter(|arity| workload.is_at(**arity));
+            arities.flat_map(move |arity| sizes.iter().map(|items| (**workload, *arity, *items)))
+        })
+    }
 }
 
 /// Reads the arguments. None if they are not as the usage says.
@@ -22,28 +33,18 @@ pub fn read(mut words: impl Iterator<Item = String>) -> Option<Wanted> {
         rounds: 9,
         workloads: Vec::new(),
     };
+    let mut names = Vec::new();
     while let Some(word) = words.next() {
         match word.as_str() {
             "--arities" => wanted.arities = numbers(&words.next()?, 8)?,
             "--sizes" => wanted.sizes = Some(numbers(&words.next()?, 100_000_000)?),
             "--rounds" => wanted.rounds = number(&words.next()?, 1_000_000)?,
-            _ => wanted.workloads.push(known(word)?),
+            name => names.push(WORKLOADS.iter().find(|known| known.name == name)?.name),
         }
     }
-    if wanted.workloads.is_empty() {
-        wanted.workloads = names().map(String::from).collect();
-    }
+    let is_wanted = |known: &&Workload| names.is_empty() || names.contains(&known.name);
+    wanted.workloads = WORKLOADS.iter().filter(is_wanted).collect();
     Some(wanted)
-}
-
-/// The names of all workloads.
-fn names() -> impl Iterator<Item = &'static str> {
-    let calls = WORKLOADS.iter().map(|workload| workload.name);
-    calls.chain([SEARCH])
-}
-
-fn known(word: String) -> Option<String> {
-    names().any(|name| name == word).then_some(word)
 }
 
 fn numbers(words: &str, most: usize) -> Option<Vec<usize>> {

@@ -1,8 +1,8 @@
 //! The comparisons that the heaps in Rust make.
 
-use crate::items::Item;
+use crate::items::{ordered, Item};
+use crate::random::Random;
 use std::cell::Cell;
-use std::cmp::Ordering;
 
 thread_local! {
     static COMPARISONS: Cell<u64> = const { Cell::new(0) };
@@ -27,39 +27,24 @@ pub fn add() {
 #[derive(Clone, Copy)]
 pub struct Counted(pub i64);
 
-impl Ord for Counted {
-    fn cmp(&self, other: &Self) -> Ordering {
-        add();
-        self.0.cmp(&other.0)
-    }
-}
-
-impl PartialOrd for Counted {
-    fn partial_cmp(&self, other: &Self) -> Option<Ordering> {
-        Some(self.cmp(other))
-    }
-}
-
-impl PartialEq for Counted {
-    fn eq(&self, other: &Self) -> bool {
-        self.0 == other.0
-    }
-}
-
-impl Eq for Counted {}
+ordered!(Counted, |one: &Counted, other: &Counted| {
+    add();
+    one.0.cmp(&other.0)
+});
 
 impl Item for Counted {
     type Mark = i64;
-    type Flat = ();
+
+    fn draw(random: &mut Random) -> Counted {
+        Counted(i64::draw(random))
+    }
 
     fn mark(&self) -> i64 {
         self.0
     }
 
-    fn flat(_items: &[Counted]) {}
-
-    fn is_odd(&self) -> bool {
-        self.0.is_odd()
+    fn is_kept(&self) -> bool {
+        self.0.is_kept()
     }
 
     fn lowered(&self, by: &Counted) -> Counted {

@@ -1,11 +1,11 @@
 //! The inputs of a line. They depend on the line alone, so each run of the program has the same.
 
-use crate::items::Draw;
+use crate::items::Item;
 use crate::queue::Queue;
 use crate::random::Random;
-use crate::search::Graph;
-use crate::workload::{Given, Task, Workload};
-use dary_heap::DaryHeap;
+use crate::search::Pair;
+use crate::workload::{at_arity, Call, Given, Line, Task, Workload};
+use std::iter::zip;
 
 /// How many edges leave a node.
 const EDGES: usize = 5;
@@ -14,79 +14,62 @@ const SEARCHES: usize = 2;
 /// What an edge costs at most.
 const COST: usize = 1000;
 
-/// How many inputs a line goes through by turns: several if they are small, so that none is met
-/// again at once.
-fn inputs(items: usize) -> usize {
-    (64_000 / items).clamp(1, 64)
+/// The inputs that a line goes through by turns: several if they are small, so that none is met again at once.
+fn inputs<T>(items: usize, task: impl FnMut(Random) -> Task<T>) -> Vec<Task<T>> {
+    let inputs = (64_000 / items).clamp(1, 64) as u64;
+    (0..inputs).map(Random::new).map(task).collect()
 }
 
-/// The tasks of a workload with so many items each.
-pub fn tasks<T: Draw>(workload: &Workload, arity: usize, items: usize) -> Vec<Task<T>> {
-    let numbers = (0..inputs(items)).map(|at| Random::new(at as u64));
-    numbers
-        .map(|mut random| {
-            let first = placed(workload.given, arity, drawn(&mut random, items));
-            let more = drawn(&mut random, items);
-            Task::new(first, more, workload.piece_of(items))
-        })
-        .collect()
+/// The tasks of a line.
+pub fn tasks<T: Item>((workload, arity, items): Line) -> Vec<Task<T>> {
+    inputs(items, |mut random| {
+        let mut drawn = || (0..items).map(|_| T::draw(&mut random)).collect();
+        let first = placed(&workload, arity, drawn());
+        Task::new(first, drawn(), (workload.piece)(items))
+    })
 }
 
-fn drawn<T: Draw>(random: &mut Random, items: usize) -> Vec<T> {
-    (0..items).map(|_| T::draw(random)).collect()
-}
-
-/// The items as the workload wants them to lie.
-fn placed<T: Draw>(given: Given, arity: usize, mut items: Vec<T>) -> Vec<T> {
-    match given {
-        Given::Random => items,
-        Given::Ascending => {
-            items.sort_unstable();
-            items
-        }
-        Given::Descending => {
-            items.sort_unstable();
-            items.reverse();
-            items
-        }
-        Given::HeapOrdered => heap_ordered(arity, items),
+/// The items as the workload wants them to lie. Where it takes them as they are, they lie as in the slice of the
+/// crate's heap of them.
+fn placed<T: Item>(workload: &Workload, arity: usize, mut items: Vec<T>) -> Vec<T> {
+    if workload.call >= Call::Hold {
+        return at_arity!(arity, slice_of::<T>)(items);
     }
-}
-
-/// The slice of the crate's heap of the items.
-fn heap_ordered<T: Draw>(arity: usize, items: Vec<T>) -> Vec<T> {
-    match arity {
-        1 => slice_of::<T, DaryHeap<T, 1>>(items),
-        2 => slice_of::<T, DaryHeap<T, 2>>(items),
-        3 => slice_of::<T, DaryHeap<T, 3>>(items),
-        4 => slice_of::<T, DaryHeap<T, 4>>(items),
-        5 => slice_of::<T, DaryHeap<T, 5>>(items),
-        6 => slice_of::<T, DaryHeap<T, 6>>(items),
-        7 => slice_of::<T, DaryHeap<T, 7>>(items),
-        _ => slice_of::<T, DaryHeap<T, 8>>(items),
+    match workload.given {
+        Given::Random => {}
+        Given::Ascending => items.sort_unstable(),
+        Given::Descending => items.sort_unstable_by(|one, other| other.cmp(one)),
     }
+    items
 }
 
-fn slice_of<T: Draw, Q: Queue<T>>(items: Vec<T>) -> Vec<T> {
-    Q::of(items).as_slice().to_vec()
+fn slice_of<T: Item, Q: Queue<T>>(items: Vec<T>) -> Vec<T> {
+    Q::from(items).as_slice().to_vec()
 }
 
 /// Graphs with so many edges each, to random nodes.
-pub fn graphs(edges: usize) -> Vec<Graph> {
-    let numbers = (0..inputs(edges)).map(|at| Random::new(at as u64));
-    numbers
-        .map(|mut random| graph(&mut random, edges))
-        .collect()
+pub fn graphs(edges: usize) -> Vec<Task<Pair>> {
+    inputs(edges, |mut random| graph(&mut random, edges))
 }
 
 /// The graph of nodes with `EDGES` edges each, the last perhaps with fewer.
-fn graph(random: &mut Random, edges: usize) -> Graph {
+fn graph(random: &mut Random, edges: usize) -> Task<Pair> {
     let nodes = edges.div_ceil(EDGES);
-    Graph {
-        offsets: (0..=nodes).map(|node| edges.min(node * EDGES)).collect(),
-        targets: (0..edges).map(|_| random.below(nodes)).collect(),
-        costs: (0..edges).map(|_| 1 + random.below(COST)).collect(),
-        starts: (0..SEARCHES).map(|_| random.below(nodes)).collect(),
-        goals: (0..SEARCHES).map(|_| random.below(nodes)).collect(),
+    let mut items = pairs(random, edges, [nodes, COST]);
+    items.iter_mut().for_each(|edge| edge.1 += 1);
+    Task {
+        items,
+        more: pairs(random, SEARCHES, [nodes, nodes]),
+        piece: EDGES,
+        count: edges * SEARCHES,
+        texts: Vec::new(),
+        more_texts: Vec::new(),
     }
+}
+
+/// So many pairs of numbers below the two ends. All the first ones are drawn before the second ones.
+fn pairs(random: &mut Random, count: usize, ends: [usize; 2]) -> Vec<Pair> {
+    let [first, second] = ends.map(|end| Vec::from_iter((0..count).map(|_| random.below(end))));
+    let pairs = zip(first, second).map(|(first, second)| Pair(first, second));
+    pairs.collect()
 }

@@ -1,7 +1,7 @@
 //! Times the rivals by turns, and compares what they wrote.
 
-use crate::rivals::{Agreement, Input, Rival, BOOST, CPP, CRATE, HERE, RATTLE_STD, STD};
-use std::fmt;
+use crate::rivals::{Rival, BOOST, CPP, CRATE, HERE, RATTLE_STD, STD};
+use crate::workload::Task;
 use std::time::{Duration, Instant};
 
 /// For how long a line is measured at least, if its runs are short.
@@ -33,38 +33,42 @@ const DIVISORS: [&str; 5] = [CRATE, RATTLE_STD, STD, CPP, BOOST];
 const TIMED: [&str; 6] = [HERE, CRATE, RATTLE_STD, STD, CPP, BOOST];
 const COUNTED: [&str; 3] = [HERE, CRATE, STD];
 
+/// The columns of a line, each cell made of the name of a rival.
+fn columns(
+    over: impl Fn(&str) -> String,
+    time: impl Fn(&str) -> String,
+    comparisons: impl Fn(&str) -> String,
+) -> String {
+    let over = DIVISORS.map(|name| format!("{:>15}", over(name)));
+    let times = TIMED.map(|name| format!("{:>13}", time(name)));
+    let comparisons = COUNTED.map(|name| format!("{:>17}", comparisons(name)));
+    [over.join(" "), times.join(" "), comparisons.join(" ")].join("  ")
+}
+
 /// The heads of the columns of `Figures`.
 pub fn header() -> String {
-    let ratios = DIVISORS.map(|name| format!("{:>15}", format!("over_{name}")));
-    let times = TIMED.map(|name| format!("{:>13}", format!("{name}_ns")));
-    let comparisons = COUNTED.map(|name| format!("{:>17}", format!("{name}_comparisons")));
-    [ratios.join(" "), times.join(" "), comparisons.join(" ")].join("  ")
+    columns(
+        |name| format!("over_{name}"),
+        |name| format!("{name}_ns"),
+        |name| format!("{name}_comparisons"),
+    )
 }
 
-/// Ratios of times, nanoseconds an item, and comparisons an item, with a dash for what isn't there.
-impl fmt::Display for Figures {
-    fn fmt(&self, f: &mut fmt::Formatter) -> fmt::Result {
-        let ratios = DIVISORS.map(|name| cell(15, 3, self.over(name)));
-        let times = TIMED.map(|name| cell(13, 2, self.nanoseconds(name)));
-        let comparisons = COUNTED.map(|name| cell(17, 3, self.comparisons(name)));
-        write!(
-            f,
-            "{}  {}  {}",
-            ratios.join(" "),
-            times.join(" "),
-            comparisons.join(" ")
-        )
-    }
-}
-
-fn cell(width: usize, digits: usize, number: Option<f64>) -> String {
-    match number {
-        Some(number) => format!("{number:>width$.digits$}"),
-        None => format!("{:>width$}", "-"),
-    }
+/// A number, or a dash if it isn't there.
+fn cell(digits: usize, number: Option<f64>) -> String {
+    number.map_or("-".into(), |number| format!("{number:.digits$}"))
 }
 
 impl Figures {
+    /// Ratios of times, nanoseconds an item, and comparisons an item.
+    pub fn cells(&self) -> String {
+        columns(
+            |name| cell(3, self.over(name)),
+            |name| cell(2, self.nanoseconds(name)),
+            |name| cell(3, self.comparisons(name)),
+        )
+    }
+
     fn figure(&self, name: &str) -> Option<&Figure> {
         self.of.iter().find(|figure| figure.name == name)
     }
@@ -106,37 +110,29 @@ fn rest(time: Duration, less: Duration) -> Option<Duration> {
     (rest > less / TOLD).then_some(rest)
 }
 
-/// The rivals on some inputs, and what the crate's heap writes of each.
-struct Line<'a, I: Input> {
-    rivals: &'a [Rival<I>],
-    inputs: &'a [I],
-    wanted: Vec<Vec<I::Output>>,
-}
-
 /// Measures in so many rounds, in each of which each rival makes one run; in more if they are short, and
 /// in fewer if they are long. A fault says what was refused or is another output.
-pub fn measure<I: Input>(
-    rivals: &[Rival<I>],
-    inputs: &[I],
+pub fn measure<T, M: Copy + Default + Ord>(
+    rivals: &[Rival<T, M>],
+    tasks: &[Task<T>],
     rounds: usize,
 ) -> Result<Figures, String> {
-    let line = Line {
-        rivals,
-        inputs,
-        wanted: wanted(rivals, inputs),
-    };
-    let mut of = rivals
-        .iter()
-        .map(|rival| line.unmeasured(rival))
-        .collect::<Result<Vec<_>, _>>()?;
+    let figures = rivals.iter().map(|rival| counted(rival, tasks));
+    let mut of = figures.collect::<Result<Vec<_>, _>>()?;
+    let wanted = wanted(rivals, tasks);
     let begun = Instant::now();
     let mut round = 0;
     while is_due(round, rounds, begun.elapsed()) {
-        line.round(round, &mut of)?;
+        // Another one begins in the next round.
+        for turn in 0..rivals.len() {
+            let who = (round + turn) % rivals.len();
+            let time = run(&rivals[who], tasks, &wanted)?;
+            of[who].time = Some(of[who].time.map_or(time, |least| least.min(time)));
+        }
         round += 1;
     }
     Ok(Figures {
-        items: inputs.iter().map(Input::items).sum(),
+        items: tasks.iter().map(|task| task.count).sum(),
         of,
     })
 }
@@ -147,69 +143,55 @@ fn is_due(made: usize, rounds: usize, elapsed: Duration) -> bool {
 }
 
 /// What the crate's heap, which refuses nothing, writes of each input.
-fn wanted<I: Input>(rivals: &[Rival<I>], inputs: &[I]) -> Vec<Vec<I::Output>> {
+fn wanted<T, M: Copy + Default>(rivals: &[Rival<T, M>], tasks: &[Task<T>]) -> Vec<Vec<M>> {
     let of_the_crate = rivals.iter().find(|rival| rival.name == CRATE);
-    let run = |input: &I| {
-        let mut out = vec![I::Output::default(); input.room()];
-        let written = of_the_crate.and_then(|rival| (rival.run)(input, &mut out));
+    let run = |task: &Task<T>| {
+        let mut out = vec![M::default(); task.items.len()];
+        let written = of_the_crate.and_then(|rival| (rival.run)(task, &mut out));
         out.truncate(written.unwrap_or(0) as usize);
         out
     };
-    inputs.iter().map(run).collect()
+    tasks.iter().map(run).collect()
 }
 
-impl<I: Input> Line<'_, I> {
-    /// The rival with its comparisons, before any run.
-    fn unmeasured(&self, rival: &Rival<I>) -> Result<Figure, String> {
-        let mut comparisons = None;
-        if let Some(count) = &rival.count {
-            let sum: Option<u64> = self.inputs.iter().map(count).sum();
-            comparisons = Some(sum.ok_or_else(|| format!("{} refused to count", rival.name))?);
-        }
-        Ok(Figure {
-            name: rival.name,
-            time: None,
-            comparisons,
-        })
+/// The figure of a rival with its comparisons, before any run.
+fn counted<T, M: Copy + Default>(rival: &Rival<T, M>, tasks: &[Task<T>]) -> Result<Figure, String> {
+    let name = rival.name;
+    let mut comparisons = None;
+    if let Some(count) = &rival.count {
+        let made = |task: &Task<T>| count(task, &mut vec![M::default(); task.items.len()]);
+        let sum: Option<u64> = tasks.iter().map(made).sum();
+        comparisons = Some(sum.ok_or_else(|| format!("{name} refused to count"))?);
     }
-
-    /// A run of each rival. Another one begins in the next round.
-    fn round(&self, round: usize, figures: &mut [Figure]) -> Result<(), String> {
-        let rivals = self.rivals.len();
-        for turn in 0..rivals {
-            let who = (round + turn) % rivals;
-            let time = self.run(&self.rivals[who])?;
-            figures[who].time = Some(figures[who].time.map_or(time, |least| least.min(time)));
-        }
-        Ok(())
-    }
-
-    /// The time of one run through all inputs.
-    fn run(&self, rival: &Rival<I>) -> Result<Duration, String> {
-        let longest = self.inputs.iter().map(Input::room).max();
-        let mut room = vec![I::Output::default(); longest.unwrap_or(0)];
-        let mut time = Duration::ZERO;
-        for (input, wanted) in self.inputs.iter().zip(&self.wanted) {
-            let out = &mut room[..input.room()];
-            out.fill(I::Output::default());
-            let begun = Instant::now();
-            let written = (rival.run)(input, out);
-            time += begun.elapsed();
-            let written = written.ok_or_else(|| format!("{} refused", rival.name))?;
-            let written = &out[..input.room().min(written as usize)];
-            if !agrees(rival.agreement, written, wanted) {
-                return Err(format!("{} has another output than the crate", rival.name));
-            }
-        }
-        Ok(time)
-    }
+    Ok(Figure {
+        name,
+        time: None,
+        comparisons,
+    })
 }
 
-fn agrees<T: Copy + Ord>(agreement: Agreement, written: &[T], wanted: &[T]) -> bool {
-    match agreement {
-        Agreement::Equal => written == wanted,
-        Agreement::SameItems => sorted(written) == sorted(wanted),
+/// The time of one run through all inputs.
+fn run<T, M: Copy + Default + Ord>(
+    rival: &Rival<T, M>,
+    tasks: &[Task<T>],
+    wanted: &[Vec<M>],
+) -> Result<Duration, String> {
+    let longest = tasks.iter().map(|task| task.items.len()).max();
+    let mut room = vec![M::default(); longest.unwrap_or(0)];
+    let mut time = Duration::ZERO;
+    for (task, wanted) in tasks.iter().zip(wanted) {
+        let out = &mut room[..task.items.len()];
+        out.fill(M::default());
+        let begun = Instant::now();
+        let written = (rival.run)(task, out);
+        time += begun.elapsed();
+        let written = written.ok_or_else(|| format!("{} refused", rival.name))?;
+        let written = &out[..out.len().min(written as usize)];
+        if written != wanted && (rival.is_equal || sorted(written) != sorted(wanted)) {
+            return Err(format!("{} has another output than the crate", rival.name));
+        }
     }
+    Ok(time)
 }
 
 fn sorted<T: Copy + Ord>(items: &[T]) -> Vec<T> {

@@ -1,11 +1,10 @@
 //! Those that are timed: the heap of this repository, the crate's, std's of Rattle and of Rust, and those of C++.
 
 use crate::counting::{self, Counted};
-use crate::cpp::{self, Heap, InCpp};
+use crate::foreign::{self, function, in_cpp, run, Foreign, Function};
 use crate::items::Item;
-use crate::library::{self, Answer, InLibrary};
-use crate::search::{searches, Graph, State};
-use crate::workload::{of_crate, of_std, Call, Task, Work};
+use crate::search::{searches, Pair, ARITY};
+use crate::workload::{of_crate, work, Call, Task, Work};
 use dary_heap::TernaryHeap;
 use std::collections::BinaryHeap;
 
@@ -16,198 +15,120 @@ pub const STD: &str = "std";
 pub const CPP: &str = "cpp";
 pub const BOOST: &str = "boost";
 
-/// The arity of the heap of a search.
-pub const SEARCH_ARITY: usize = 3;
-
-/// What a run works on, and writes.
-pub trait Input {
-    type Output: Copy + Default + Ord;
-
-    /// How many items a run goes over.
-    fn items(&self) -> usize;
-    /// How much a run may write.
-    fn room(&self) -> usize;
-}
-
-impl<T: Item> Input for Task<T> {
-    type Output = T::Mark;
-
-    fn items(&self) -> usize {
-        self.items.len()
-    }
-
-    fn room(&self) -> usize {
-        self.items.len()
-    }
-}
-
-impl Input for Graph {
-    type Output = u64;
-
-    fn items(&self) -> usize {
-        self.starts.len() * self.targets.len()
-    }
-
-    fn room(&self) -> usize {
-        self.starts.len()
-    }
-}
-
-/// How far an output has to be the crate's. The slice is another if the heap has another arity.
-#[derive(Clone, Copy)]
-pub enum Agreement {
-    Equal,
-    SameItems,
-}
-
-pub struct Rival<I: Input> {
+/// One that makes runs on tasks of items `T`, and writes `M`s.
+pub struct Rival<T, M> {
     pub name: &'static str,
-    pub run: Run<I>,
+    pub run: Run<T, M>,
     /// None if its comparisons aren't counted.
-    pub count: Option<Count<I>>,
-    pub agreement: Agreement,
+    pub count: Option<Run<T, M>>,
+    /// Whether it writes what the crate's heap does, and not only the same items: the slice is another if the
+    /// heap has another arity.
+    pub is_equal: bool,
 }
 
-/// A run returns how much it wrote, a count how many comparisons it made; none if memory allocation fails.
-type Run<I> = Box<dyn Fn(&I, &mut [<I as Input>::Output]) -> Option<u64>>;
-type Count<I> = Box<dyn Fn(&I) -> Option<u64>>;
+/// Returns how much it wrote, or where that is counted how many comparisons it made; none if memory allocation
+/// fails.
+type Run<T, M> = Box<dyn Fn(&Task<T>, &mut [M]) -> Option<u64>>;
 
-impl<I: Input> Rival<I> {
-    fn new(name: &'static str, run: Run<I>) -> Rival<I> {
-        Rival {
-            name,
-            run,
-            count: None,
-            agreement: Agreement::Equal,
-        }
-    }
+/// Those that make a call at an arity.
+pub type Rivals<T> = fn(Call, usize) -> Vec<Rival<T, <T as Item>::Mark>>;
 
-    fn counted_by(self, count: Count<I>) -> Rival<I> {
-        Rival {
-            count: Some(count),
-            ..self
-        }
-    }
-
-    fn agreeing(self, agreement: Agreement) -> Rival<I> {
-        Rival { agreement, ..self }
-    }
-}
-
-/// Those that make a call on numbers.
-pub fn of_numbers(call: Call, arity: usize) -> Vec<Rival<Task<i64>>> {
-    let here = here(call, arity).counted_by(Box::new(move |task: &Task<i64>| {
-        library::count(call, arity, task)
-    }));
-    let of_the_crate =
-        in_rust(CRATE, of_crate(call, arity)).counted_by(counted(of_crate(call, arity)));
-    let std = in_rust(STD, of_std(call))
-        .counted_by(counted(of_std(call)))
-        .agreeing(agreement_of(call));
-    let mut rivals = vec![here, of_the_crate, rattle_std(call), std];
-    rivals.extend(in_cpp(call, arity));
-    rivals
-}
-
-/// Those that make a call on structs of numbers.
-pub fn of_structs<T: InLibrary + InCpp + 'static>(call: Call, arity: usize) -> Vec<Rival<Task<T>>> {
+/// Those that make a call on numbers, with the comparisons of some.
+pub fn of_numbers(call: Call, arity: usize) -> Vec<Rival<i64, i64>> {
     let mut rivals = of_items(call, arity);
-    rivals.extend(in_cpp(call, arity));
+    for rival in &mut rivals {
+        rival.count = match rival.name {
+            HERE => Some(abroad(function!(bench_counted(i64) -> i64), call, arity)),
+            CRATE => Some(counted(call, of_crate(arity))),
+            STD => Some(counted(call, work::<_, BinaryHeap<_>>)),
+            _ => None,
+        };
+    }
     rivals
 }
 
-/// Those in Rust and in Rattle that make a call.
-pub fn of_items<T: InLibrary + 'static>(call: Call, arity: usize) -> Vec<Rival<Task<T>>> {
-    vec![
-        here(call, arity),
-        in_rust(CRATE, of_crate(call, arity)),
-        rattle_std(call),
-        in_rust(STD, of_std(call)).agreeing(agreement_of(call)),
-    ]
-}
-
-/// How far a heap of another arity agrees.
-fn agreement_of(call: Call) -> Agreement {
-    match call {
-        Call::Copy | Call::Pop | Call::Churn | Call::Turns | Call::Sorted => Agreement::Equal,
-        _ => Agreement::SameItems,
+/// Those that make a call.
+pub fn of_items<T: Foreign>(call: Call, arity: usize) -> Vec<Rival<T, T::Mark>> {
+    let mut runs = vec![
+        (HERE, abroad(T::LIBRARY, call, arity)),
+        (CRATE, in_rust(of_crate(arity), call)),
+        (RATTLE_STD, abroad(T::LIBRARY, call, foreign::STD)),
+        (STD, in_rust(work::<T, BinaryHeap<T>>, call)),
+    ];
+    for (name, heap) in [(CPP, foreign::STD), (BOOST, arity)] {
+        if let Some(function) = in_cpp::<T>(call, heap) {
+            runs.push((name, abroad(function, call, heap)));
+        }
     }
+    let rivals = runs.into_iter().map(|(name, run)| Rival {
+        name,
+        run,
+        count: None,
+        is_equal: [HERE, CRATE].contains(&name) || !writes_slice(call),
+    });
+    rivals.collect()
 }
 
-fn here<T: InLibrary>(call: Call, arity: usize) -> Rival<Task<T>> {
-    let run = move |task: &Task<T>, out: &mut [T::Mark]| T::run(call, arity, task, out);
-    Rival::new(HERE, Box::new(run))
+/// Whether the call writes the heap's slice.
+fn writes_slice(call: Call) -> bool {
+    use Call::{Churn, Copy, Pop, Sorted, Turns};
+    !matches!(call, Copy | Pop | Sorted | Churn | Turns)
 }
 
-/// Rattle's own heap.
-fn rattle_std<T: InLibrary>(call: Call) -> Rival<Task<T>> {
-    let run =
-        move |task: &Task<T>, out: &mut [T::Mark]| T::run(call, library::RATTLE_STD, task, out);
-    Rival::new(RATTLE_STD, Box::new(run)).agreeing(agreement_of(call))
+fn abroad<T: Foreign>(
+    function: Function<T::Given, T::Mark>,
+    call: Call,
+    heap: usize,
+) -> Run<T, T::Mark> {
+    Box::new(move |task, out| run(function, call, heap, T::given(task), task.piece, out))
 }
 
-fn in_rust<T: Item + 'static>(name: &'static str, work: Work<T>) -> Rival<Task<T>> {
-    let run = move |task: &Task<T>, out: &mut [T::Mark]| Some(work(task, out) as u64);
-    Rival::new(name, Box::new(run))
+fn in_rust<T: 'static, M: 'static>(work: Work<T, M>, call: Call) -> Run<T, M> {
+    Box::new(move |task, out| Some(work(call, task, out) as u64))
 }
 
-/// The heaps of C++ that make the call.
-fn in_cpp<T: InCpp>(call: Call, arity: usize) -> impl Iterator<Item = Rival<Task<T>>> {
-    let heaps = [(CPP, Heap::Std), (BOOST, Heap::Boost)].into_iter();
-    let there = heaps.filter(move |(_, heap)| cpp::makes(*heap, call, arity));
-    there.map(move |(name, heap)| {
-        let run = move |task: &Task<T>, out: &mut [T::Mark]| {
-            <T as InCpp>::run(heap, call, arity, task, out)
-        };
-        Rival::new(name, Box::new(run)).agreeing(agreement_of(call))
-    })
-}
-
-fn counted(work: Work<Counted>) -> Count<Task<i64>> {
-    Box::new(move |task| {
-        let mut out = vec![0; task.room()];
-        work(&counting_task(task), &mut out);
-        Some(counting::made())
-    })
-}
-
-/// The task over numbers that count their comparisons.
-fn counting_task(task: &Task<i64>) -> Task<Counted> {
+/// The comparisons of a call on numbers that count them.
+fn counted(call: Call, work: Work<Counted, i64>) -> Run<i64, i64> {
     let counting = |items: &[i64]| items.iter().copied().map(Counted).collect();
-    Task::new(counting(&task.items), counting(&task.more), task.piece)
-}
-
-/// Those that search.
-pub fn of_graphs() -> Vec<Rival<Graph>> {
-    let here = Rival::new(
-        HERE,
-        Box::new(|graph: &Graph, out: &mut [u64]| {
-            library::searches(Answer::Written, SEARCH_ARITY, graph, out)
-        }),
-    );
-    let count = |graph: &Graph| {
-        let mut out = vec![0; graph.room()];
-        library::searches(Answer::Comparisons, SEARCH_ARITY, graph, &mut out)
-    };
-    let of_the_crate = searching(
-        CRATE,
-        searches::<false, TernaryHeap<State<false>>>,
-        searches::<true, TernaryHeap<State<true>>>,
-    );
-    let of_std = searching(
-        STD,
-        searches::<false, BinaryHeap<State<false>>>,
-        searches::<true, BinaryHeap<State<true>>>,
-    );
-    vec![here.counted_by(Box::new(count)), of_the_crate, of_std]
-}
-
-type Searches = fn(&Graph, &mut [u64]) -> usize;
-
-fn searching(name: &'static str, work: Searches, counted: Searches) -> Rival<Graph> {
-    let run = move |graph: &Graph, out: &mut [u64]| Some(work(graph, out) as u64);
-    Rival::new(name, Box::new(run)).counted_by(Box::new(move |graph: &Graph| {
-        counted(graph, &mut vec![0; graph.room()]);
+    Box::new(move |task, out| {
+        let counting = Task::new(counting(&task.items), counting(&task.more), task.piece);
+        work(call, &counting, out);
         Some(counting::made())
-    }))
+    })
+}
+
+/// Those that search, each with the count of its comparisons.
+pub fn of_graphs() -> Vec<Rival<Pair, u64>> {
+    let here = searching_here(function!(bench_graph(Pair) -> u64));
+    let here_counted = searching_here(function!(bench_graph_counted(Pair) -> u64));
+    let of_crate = in_rust(searches::<false, TernaryHeap<_>>, Call::Search);
+    let crate_counted = counted_search(searches::<true, TernaryHeap<_>>);
+    let of_std = in_rust(searches::<false, BinaryHeap<_>>, Call::Search);
+    let std_counted = counted_search(searches::<true, BinaryHeap<_>>);
+    let rivals = [
+        (HERE, here, here_counted),
+        (CRATE, of_crate, crate_counted),
+        (STD, of_std, std_counted),
+    ];
+    let rivals = rivals.map(|(name, run, count)| Rival {
+        name,
+        run,
+        count: Some(count),
+        is_equal: true,
+    });
+    rivals.into()
+}
+
+fn searching_here(function: Function<Pair, u64>) -> Run<Pair, u64> {
+    Box::new(move |graph, out| {
+        let given = (&graph.items[..], &graph.more[..]);
+        run(function, Call::Search, ARITY, given, graph.piece, out)
+    })
+}
+
+fn counted_search(work: Work<Pair, u64>) -> Run<Pair, u64> {
+    Box::new(move |graph, out| {
+        work(Call::Search, graph, out);
+        Some(counting::made())
+    })
 }

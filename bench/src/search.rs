@@ -1,88 +1,62 @@
 //! The search for a cheapest walk, over any heap.
 
 use crate::counting;
+use crate::items::ordered;
 use crate::queue::Queue;
-use std::cmp::Ordering;
+use crate::workload::{Call, Task};
 
-/// A graph, and the searches to make in it. The edges that leave a node are those from its offset
-/// up to the next one, each with the node that it leads to and its cost.
-pub struct Graph {
-    pub offsets: Vec<usize>,
-    pub targets: Vec<usize>,
-    pub costs: Vec<usize>,
-    pub starts: Vec<usize>,
-    pub goals: Vec<usize>,
-}
+/// The arity of the heap of a search.
+pub const ARITY: usize = 3;
 
-struct Edge {
-    target: usize,
-    cost: usize,
-}
+/// An edge of a graph: the node that it leads to, and what it costs. Or a walk that is sought: the nodes where it
+/// begins and where it ends. The items of a graph's task are its edges, of which each node has a piece.
+#[repr(C)]
+#[derive(Clone, Copy)]
+pub struct Pair(pub usize, pub usize);
 
 /// A node, and the cost of some walk to it. The cheaper state is the greater one.
-#[derive(Clone, Copy, PartialEq, Eq)]
+#[derive(Clone, Copy)]
 pub struct State<const COUNTED: bool> {
     cost: usize,
     node: usize,
 }
 
-impl<const COUNTED: bool> Ord for State<COUNTED> {
-    fn cmp(&self, other: &Self) -> Ordering {
-        if COUNTED {
-            counting::add();
-        }
-        let cheaper = other.cost.cmp(&self.cost);
-        cheaper.then_with(|| self.node.cmp(&other.node))
+ordered!(State<const COUNTED: bool>, |one: &Self, other: &Self| {
+    if COUNTED {
+        counting::add();
     }
-}
-
-impl<const COUNTED: bool> PartialOrd for State<COUNTED> {
-    fn partial_cmp(&self, other: &Self) -> Option<Ordering> {
-        Some(self.cmp(other))
-    }
-}
+    let cheaper = other.cost.cmp(&one.cost);
+    cheaper.then_with(|| one.node.cmp(&other.node))
+});
 
 /// Makes the searches of the graph, and writes each cost, or `u64::MAX` if no walk leads there.
 /// Returns how many.
 pub fn searches<const COUNTED: bool, Q: Queue<State<COUNTED>>>(
-    graph: &Graph,
+    _call: Call,
+    graph: &Task<Pair>,
     out: &mut [u64],
 ) -> usize {
-    let edges = lists(graph);
+    let edges: Vec<_> = graph.items.chunks(graph.piece).map(<[_]>::to_vec).collect();
     counting::begin();
-    let asked = graph.starts.iter().zip(&graph.goals);
-    for ((start, goal), place) in asked.zip(out) {
+    for (Pair(start, goal), place) in graph.more.iter().zip(out) {
         let found = cheapest::<COUNTED, Q>(&edges, *start, *goal);
         *place = found.map_or(u64::MAX, |cost| cost as u64);
     }
-    graph.starts.len()
-}
-
-/// For each node the edges that leave it.
-fn lists(graph: &Graph) -> Vec<Vec<Edge>> {
-    let edge = |at: usize| Edge {
-        target: graph.targets[at],
-        cost: graph.costs[at],
-    };
-    let rows = graph.offsets.windows(2);
-    rows.map(|ends| (ends[0]..ends[1]).map(edge).collect())
-        .collect()
+    graph.more.len()
 }
 
 /// The least cost of a walk. A node's cost is final when it is popped as cheap as it was last
 /// found.
 fn cheapest<const COUNTED: bool, Q: Queue<State<COUNTED>>>(
-    edges: &[Vec<Edge>],
+    edges: &[Vec<Pair>],
     start: usize,
     goal: usize,
 ) -> Option<usize> {
     let mut least = vec![usize::MAX; edges.len()];
-    let mut states = Q::empty();
-    least[start] = 0;
-    states.push(State {
-        cost: 0,
-        node: start,
-    });
+    let mut states = Q::with_room(0);
+    let (cost, node) = (0, start);
+    least[start] = cost;
+    states.push(State { cost, node });
     while let Some(state) = states.pop() {
         if state.node == goal {
             return Some(state.cost);
@@ -96,19 +70,16 @@ fn cheapest<const COUNTED: bool, Q: Queue<State<COUNTED>>>(
 
 /// Pushes each node that is reached at less than was known, over an edge from a node of this cost.
 fn walk_on<const COUNTED: bool, Q: Queue<State<COUNTED>>>(
-    edges: &[Edge],
+    edges: &[Pair],
     cost: usize,
     least: &mut [usize],
     states: &mut Q,
 ) {
-    for edge in edges {
-        let cost = cost + edge.cost;
-        if cost < least[edge.target] {
-            least[edge.target] = cost;
-            states.push(State {
-                cost,
-                node: edge.target,
-            });
+    for Pair(node, more) in edges {
+        let (cost, node) = (cost + more, *node);
+        if cost < least[node] {
+            least[node] = cost;
+            states.push(State { cost, node });
         }
     }
 }

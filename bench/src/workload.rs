@@ -1,54 +1,51 @@
 //! What is timed: the calls, and the workloads that make them on given items.
 
 use crate::counting;
-use crate::items::Item;
+use crate::items::{Item, Text};
 use crate::queue::Queue;
-use dary_heap::DaryHeap;
-use std::collections::BinaryHeap;
+use crate::search;
 
-/// What is done with a heap. Each call takes the items and writes the marks of items of the heap.
-#[derive(Clone, Copy, PartialEq)]
+/// What is done with a heap. Each call takes the items and writes the marks of items of the heap. The library
+/// and `rivals.cpp` know them by their numbers.
+#[derive(Clone, Copy, PartialEq, PartialOrd)]
+#[repr(usize)]
 pub enum Call {
     /// No heap is made: the items are copied and written.
     Copy,
-    Hold,
     Build,
     Push,
     /// Pushes into a heap with room for all.
     Reserved,
+    Extend,
+    Append,
+    /// This and those that follow take the items as they are, which are heap ordered.
+    Hold,
+    Retain,
     Pop,
+    Sorted,
     Churn,
     /// A pop and a push by turns: what came out goes in again a little less.
     Turns,
-    Extend,
-    Append,
-    Retain,
-    Sorted,
+    /// Searches in a graph, of which lists are made. Other items have no such call.
+    Search,
 }
 
 /// What the items are.
-#[derive(Clone, Copy)]
+#[derive(Clone, Copy, PartialEq)]
 pub enum Kind {
     Numbers,
     Entries,
     Records,
     Strings,
+    Graphs,
 }
 
-/// How the items of a workload lie.
-#[derive(Clone, Copy, PartialEq)]
+/// How the items of a workload lie, if it doesn't take them as they are.
+#[derive(Clone, Copy)]
 pub enum Given {
     Random,
     Ascending,
     Descending,
-    HeapOrdered,
-}
-
-/// How many items an extend or an append takes at once.
-#[derive(Clone, Copy)]
-pub enum Piece {
-    Of(usize),
-    Eighth,
 }
 
 #[derive(Clone, Copy)]
@@ -57,124 +54,110 @@ pub struct Workload {
     pub kind: Kind,
     pub call: Call,
     pub given: Given,
-    pub piece: Piece,
-    /// The call whose time is taken off.
-    pub set_up: Option<Call>,
+    /// How many of so many items an extend or an append takes at once.
+    pub piece: fn(usize) -> usize,
     /// The sizes, if none are asked for.
     pub sizes: &'static [usize],
 }
+
+/// A workload, at an arity, on so many items.
+pub type Line = (Workload, usize, usize);
 
 /// Sizes to beyond the caches.
 const ALL: &[usize] = &[1_000, 10_000, 100_000, 1_000_000, 10_000_000];
 const SOME: &[usize] = &[1_000, 100_000, 1_000_000];
 
 impl Workload {
-    const fn on_numbers(name: &'static str, call: Call, given: Given) -> Workload {
-        Workload {
-            name,
-            kind: Kind::Numbers,
-            call,
-            given,
-            piece: Piece::Of(1),
-            set_up: match (call, given) {
-                (Call::Hold, _) => None,
-                (_, Given::HeapOrdered) => Some(Call::Hold),
-                _ => None,
-            },
-            sizes: SOME,
-        }
+    const fn given(self, given: Given) -> Workload {
+        Workload { given, ..self }
     }
 
-    const fn at_all_sizes(self) -> Workload {
-        Workload { sizes: ALL, ..self }
-    }
-
-    const fn by(self, piece: Piece) -> Workload {
+    const fn by(self, piece: fn(usize) -> usize) -> Workload {
         Workload { piece, ..self }
     }
 
-    /// A workload on wider items, which are dear to copy, so that a copy is taken off as well.
-    const fn on(kind: Kind, name: &'static str, call: Call) -> Workload {
-        let (given, set_up) = match call {
-            Call::Build | Call::Push => (Given::Random, Call::Copy),
-            _ => (Given::HeapOrdered, Call::Hold),
-        };
-        Workload {
-            kind,
-            set_up: Some(set_up),
-            ..Workload::on_numbers(name, call, given)
-        }
-    }
-
-    /// What is taken off, on the same items.
+    /// What is taken off, on the same items. Wider items are dear to copy, so a copy is taken off as well.
     pub fn set_up(&self) -> Option<Workload> {
-        let call = self.set_up?;
-        Some(Workload {
-            call,
-            set_up: None,
-            ..*self
-        })
+        let call = match self.kind {
+            Kind::Graphs => return None,
+            _ if self.call > Call::Hold => Call::Hold,
+            Kind::Numbers => return None,
+            _ => Call::Copy,
+        };
+        Some(Workload { call, ..*self })
     }
 
-    /// How many items are in a piece.
-    pub fn piece_of(&self, items: usize) -> usize {
-        match self.piece {
-            Piece::Of(piece) => piece,
-            Piece::Eighth => (items / 8).max(1),
-        }
+    /// Whether it is there at an arity.
+    pub fn is_at(&self, arity: usize) -> bool {
+        self.kind != Kind::Graphs || arity == search::ARITY
     }
 }
 
-pub const WORKLOADS: [Workload; 27] = [
-    Workload::on_numbers("hold", Call::Hold, Given::HeapOrdered).at_all_sizes(),
-    Workload::on_numbers("build", Call::Build, Given::Random).at_all_sizes(),
-    Workload::on_numbers("push_random", Call::Push, Given::Random).at_all_sizes(),
-    Workload::on_numbers("push_ascending", Call::Push, Given::Ascending),
-    Workload::on_numbers("push_descending", Call::Push, Given::Descending),
-    Workload::on_numbers("push_reserved", Call::Reserved, Given::Random),
-    Workload::on_numbers("pop", Call::Pop, Given::HeapOrdered).at_all_sizes(),
-    Workload::on_numbers("churn", Call::Churn, Given::HeapOrdered).at_all_sizes(),
-    Workload::on_numbers("turns", Call::Turns, Given::HeapOrdered).at_all_sizes(),
-    Workload::on_numbers("extend_64", Call::Extend, Given::Random).by(Piece::Of(64)),
-    Workload::on_numbers("extend_eighth", Call::Extend, Given::Random).by(Piece::Eighth),
-    Workload::on_numbers("append_64", Call::Append, Given::Random).by(Piece::Of(64)),
-    Workload::on_numbers("append_eighth", Call::Append, Given::Random).by(Piece::Eighth),
-    Workload::on_numbers("retain", Call::Retain, Given::HeapOrdered),
-    Workload::on_numbers("into_iter_sorted", Call::Sorted, Given::HeapOrdered),
-    Workload::on(Kind::Entries, "build_entries", Call::Build),
-    Workload::on(Kind::Entries, "push_entries", Call::Push),
-    Workload::on(Kind::Entries, "pop_entries", Call::Pop),
-    Workload::on(Kind::Entries, "churn_entries", Call::Churn),
-    Workload::on(Kind::Records, "build_records", Call::Build),
-    Workload::on(Kind::Records, "push_records", Call::Push),
-    Workload::on(Kind::Records, "pop_records", Call::Pop),
-    Workload::on(Kind::Records, "churn_records", Call::Churn),
-    Workload::on(Kind::Strings, "build_strings", Call::Build),
-    Workload::on(Kind::Strings, "push_strings", Call::Push),
-    Workload::on(Kind::Strings, "pop_strings", Call::Pop),
-    Workload::on(Kind::Strings, "churn_strings", Call::Churn),
+const fn on(kind: Kind, name: &'static str, call: Call, sizes: &'static [usize]) -> Workload {
+    Workload {
+        name,
+        kind,
+        call,
+        given: Given::Random,
+        piece: |_| 1,
+        sizes,
+    }
+}
+
+fn eighth(items: usize) -> usize {
+    (items / 8).max(1)
+}
+
+pub const WORKLOADS: [Workload; 28] = [
+    on(Kind::Numbers, "hold", Call::Hold, ALL),
+    on(Kind::Numbers, "build", Call::Build, ALL),
+    on(Kind::Numbers, "push_random", Call::Push, ALL),
+    on(Kind::Numbers, "push_ascending", Call::Push, SOME).given(Given::Ascending),
+    on(Kind::Numbers, "push_descending", Call::Push, SOME).given(Given::Descending),
+    on(Kind::Numbers, "push_reserved", Call::Reserved, SOME),
+    on(Kind::Numbers, "pop", Call::Pop, ALL),
+    on(Kind::Numbers, "churn", Call::Churn, ALL),
+    on(Kind::Numbers, "turns", Call::Turns, ALL),
+    on(Kind::Numbers, "extend_64", Call::Extend, SOME).by(|_| 64),
+    on(Kind::Numbers, "extend_eighth", Call::Extend, SOME).by(eighth),
+    on(Kind::Numbers, "append_64", Call::Append, SOME).by(|_| 64),
+    on(Kind::Numbers, "append_eighth", Call::Append, SOME).by(eighth),
+    on(Kind::Numbers, "retain", Call::Retain, SOME),
+    on(Kind::Numbers, "into_iter_sorted", Call::Sorted, SOME),
+    on(Kind::Entries, "build_entries", Call::Build, SOME),
+    on(Kind::Entries, "push_entries", Call::Push, SOME),
+    on(Kind::Entries, "pop_entries", Call::Pop, SOME),
+    on(Kind::Entries, "churn_entries", Call::Churn, SOME),
+    on(Kind::Records, "build_records", Call::Build, SOME),
+    on(Kind::Records, "push_records", Call::Push, SOME),
+    on(Kind::Records, "pop_records", Call::Pop, SOME),
+    on(Kind::Records, "churn_records", Call::Churn, SOME),
+    on(Kind::Strings, "build_strings", Call::Build, SOME),
+    on(Kind::Strings, "push_strings", Call::Push, SOME),
+    on(Kind::Strings, "pop_strings", Call::Pop, SOME),
+    on(Kind::Strings, "churn_strings", Call::Churn, SOME),
+    on(Kind::Graphs, "shortest_path", Call::Search, SOME),
 ];
 
-/// The search that is a workload too, and its sizes.
-pub const SEARCH: &str = "shortest_path";
-pub const SEARCH_SIZES: &[usize] = SOME;
-
 /// The items of one run.
-pub struct Task<T: Item> {
+pub struct Task<T> {
     pub items: Vec<T>,
     /// What a churn pushes, and by what the items become less that come out at each turn.
     pub more: Vec<T>,
     pub piece: usize,
-    /// The items, and those of `more`, as the library is handed them.
-    pub flat: T::Flat,
-    pub more_flat: T::Flat,
+    /// How many items a run goes over.
+    pub count: usize,
+    /// The items, and those of `more`, if the library is handed them as texts.
+    pub texts: Vec<Text>,
+    pub more_texts: Vec<Text>,
 }
 
 impl<T: Item> Task<T> {
     pub fn new(items: Vec<T>, more: Vec<T>, piece: usize) -> Task<T> {
         Task {
-            flat: T::flat(&items),
-            more_flat: T::flat(&more),
+            texts: items.iter().filter_map(T::text).collect(),
+            more_texts: more.iter().filter_map(T::text).collect(),
+            count: items.len(),
             items,
             more,
             piece,
@@ -182,46 +165,54 @@ impl<T: Item> Task<T> {
     }
 }
 
-/// A call on the items of a task. It returns how many marks it wrote.
-pub type Work<T> = fn(&Task<T>, &mut [<T as Item>::Mark]) -> usize;
-
-/// The call over the crate's heap of this arity, from 1 to 8.
-pub fn of_crate<T: Item>(call: Call, arity: usize) -> Work<T> {
-    match arity {
-        1 => work::<T, DaryHeap<T, 1>>(call),
-        2 => work::<T, DaryHeap<T, 2>>(call),
-        3 => work::<T, DaryHeap<T, 3>>(call),
-        4 => work::<T, DaryHeap<T, 4>>(call),
-        5 => work::<T, DaryHeap<T, 5>>(call),
-        6 => work::<T, DaryHeap<T, 6>>(call),
-        7 => work::<T, DaryHeap<T, 7>>(call),
-        _ => work::<T, DaryHeap<T, 8>>(call),
-    }
+/// A function over the crate's heap of an arity from 1 to 8.
+macro_rules! at_arity {
+    ($arity:expr, $function:ident::<$item:ident>) => {
+        match $arity {
+            1 => $function::<$item, dary_heap::DaryHeap<$item, 1>>,
+            2 => $function::<$item, dary_heap::DaryHeap<$item, 2>>,
+            3 => $function::<$item, dary_heap::DaryHeap<$item, 3>>,
+            4 => $function::<$item, dary_heap::DaryHeap<$item, 4>>,
+            5 => $function::<$item, dary_heap::DaryHeap<$item, 5>>,
+            6 => $function::<$item, dary_heap::DaryHeap<$item, 6>>,
+            7 => $function::<$item, dary_heap::DaryHeap<$item, 7>>,
+            _ => $function::<$item, dary_heap::DaryHeap<$item, 8>>,
+        }
+    };
 }
 
-/// The call over std's heap.
-pub fn of_std<T: Item>(call: Call) -> Work<T> {
-    work::<T, BinaryHeap<T>>(call)
+pub(crate) use at_arity;
+
+/// Makes a call on the items of a task. It returns how many marks it wrote.
+pub type Work<T, M> = fn(Call, &Task<T>, &mut [M]) -> usize;
+
+/// The work over the crate's heap of this arity, from 1 to 8.
+pub fn of_crate<T: Item>(arity: usize) -> Work<T, T::Mark> {
+    at_arity!(arity, work::<T>)
 }
 
-fn work<T: Item, Q: Queue<T>>(call: Call) -> Work<T> {
-    match call {
-        Call::Copy => copy::<T>,
-        Call::Hold => hold::<T, Q>,
-        Call::Build => build::<T, Q>,
-        Call::Push => push::<T, Q>,
-        Call::Reserved => reserved::<T, Q>,
-        Call::Pop => pop::<T, Q>,
-        Call::Churn => churn::<T, Q>,
-        Call::Turns => turns::<T, Q>,
-        Call::Extend => extend::<T, Q>,
-        Call::Append => append::<T, Q>,
-        Call::Retain => retain::<T, Q>,
-        Call::Sorted => sorted::<T, Q>,
-    }
+/// The work over std's heap. What follows the set-up is counted.
+pub fn work<T: Item, Q: Queue<T>>(call: Call, task: &Task<T>, out: &mut [T::Mark]) -> usize {
+    counting::begin();
+    let heap: Q = match call {
+        Call::Copy => return written(&task.items.clone(), out),
+        Call::Build => Q::from(task.items.clone()),
+        Call::Push => pushed(0, task),
+        Call::Reserved => pushed(task.items.len(), task),
+        Call::Extend => extended(task),
+        Call::Append => appended(task),
+        Call::Hold => held(task),
+        Call::Retain => retained(held(task)),
+        Call::Pop => return pop::<T, Q>(held(task), out),
+        Call::Sorted => return sorted::<T, Q>(held(task), out),
+        Call::Churn => return churn::<T, Q>(held(task), &task.more, out),
+        Call::Turns => return turns::<T, Q>(held(task), &task.more, out),
+        Call::Search => unreachable!("these items are no graph"),
+    };
+    written(heap.as_slice(), out)
 }
 
-/// The heap that a call begins with. What follows is counted.
+/// The heap of the items, which are heap ordered. What follows is counted.
 fn held<T: Item, Q: Queue<T>>(task: &Task<T>) -> Q {
     let heap = Q::of_ordered(task.items.clone());
     counting::begin();
@@ -236,41 +227,41 @@ fn written<T: Item>(items: &[T], out: &mut [T::Mark]) -> usize {
     items.len()
 }
 
-fn copy<T: Item>(task: &Task<T>, out: &mut [T::Mark]) -> usize {
-    written(&task.items.clone(), out)
-}
-
-fn hold<T: Item, Q: Queue<T>>(task: &Task<T>, out: &mut [T::Mark]) -> usize {
-    let heap: Q = held(task);
-    written(heap.as_slice(), out)
-}
-
-fn build<T: Item, Q: Queue<T>>(task: &Task<T>, out: &mut [T::Mark]) -> usize {
-    counting::begin();
-    let heap = Q::of(task.items.clone());
-    written(heap.as_slice(), out)
-}
-
-fn push<T: Item, Q: Queue<T>>(task: &Task<T>, out: &mut [T::Mark]) -> usize {
-    counting::begin();
-    let mut heap = Q::empty();
+#[inline(never)]
+fn pushed<T: Item, Q: Queue<T>>(room: usize, task: &Task<T>) -> Q {
+    let mut heap = Q::with_room(room);
     for item in &task.items {
         heap.push(item.clone());
     }
-    written(heap.as_slice(), out)
+    heap
 }
 
-fn reserved<T: Item, Q: Queue<T>>(task: &Task<T>, out: &mut [T::Mark]) -> usize {
-    counting::begin();
-    let mut heap = Q::with_room(task.items.len());
-    for item in &task.items {
-        heap.push(item.clone());
+#[inline(never)]
+fn extended<T: Item, Q: Queue<T>>(task: &Task<T>) -> Q {
+    let mut heap = Q::with_room(0);
+    for piece in task.items.chunks(task.piece) {
+        heap.extend(piece.iter().cloned());
     }
-    written(heap.as_slice(), out)
+    heap
 }
 
-fn pop<T: Item, Q: Queue<T>>(task: &Task<T>, out: &mut [T::Mark]) -> usize {
-    let mut heap: Q = held(task);
+#[inline(never)]
+fn appended<T: Item, Q: Queue<T>>(task: &Task<T>) -> Q {
+    let mut heap = Q::with_room(0);
+    for piece in task.items.chunks(task.piece) {
+        heap.append(&mut Q::from(piece.to_vec()));
+    }
+    heap
+}
+
+#[inline(never)]
+fn retained<T: Item, Q: Queue<T>>(mut heap: Q) -> Q {
+    heap.retain(T::is_kept);
+    heap
+}
+
+#[inline(never)]
+fn pop<T: Item, Q: Queue<T>>(mut heap: Q, out: &mut [T::Mark]) -> usize {
     let mut count = 0;
     while let Some(item) = heap.pop() {
         out[count] = item.mark();
@@ -279,10 +270,20 @@ fn pop<T: Item, Q: Queue<T>>(task: &Task<T>, out: &mut [T::Mark]) -> usize {
     count
 }
 
-fn churn<T: Item, Q: Queue<T>>(task: &Task<T>, out: &mut [T::Mark]) -> usize {
-    let mut heap: Q = held(task);
+#[inline(never)]
+fn sorted<T: Item, Q: Queue<T>>(heap: Q, out: &mut [T::Mark]) -> usize {
     let mut count = 0;
-    for item in &task.more {
+    for (item, place) in heap.into_iter_sorted().zip(out) {
+        *place = item.mark();
+        count += 1;
+    }
+    count
+}
+
+#[inline(never)]
+fn churn<T: Item, Q: Queue<T>>(mut heap: Q, more: &[T], out: &mut [T::Mark]) -> usize {
+    let mut count = 0;
+    for item in more {
         heap.push(item.clone());
         if let Some(greatest) = heap.pop() {
             out[count] = greatest.mark();
@@ -292,50 +293,15 @@ fn churn<T: Item, Q: Queue<T>>(task: &Task<T>, out: &mut [T::Mark]) -> usize {
     count
 }
 
-fn turns<T: Item, Q: Queue<T>>(task: &Task<T>, out: &mut [T::Mark]) -> usize {
-    let mut heap: Q = held(task);
+#[inline(never)]
+fn turns<T: Item, Q: Queue<T>>(mut heap: Q, more: &[T], out: &mut [T::Mark]) -> usize {
     let mut count = 0;
-    for less in &task.more {
+    for less in more {
         if let Some(greatest) = heap.pop() {
             out[count] = greatest.mark();
             count += 1;
             heap.push(greatest.lowered(less));
         }
-    }
-    count
-}
-
-fn extend<T: Item, Q: Queue<T>>(task: &Task<T>, out: &mut [T::Mark]) -> usize {
-    counting::begin();
-    let mut heap = Q::empty();
-    for piece in task.items.chunks(task.piece) {
-        heap.extend(piece);
-    }
-    written(heap.as_slice(), out)
-}
-
-fn append<T: Item, Q: Queue<T>>(task: &Task<T>, out: &mut [T::Mark]) -> usize {
-    counting::begin();
-    let mut heap = Q::empty();
-    for piece in task.items.chunks(task.piece) {
-        let mut other = Q::of(piece.to_vec());
-        heap.append(&mut other);
-    }
-    written(heap.as_slice(), out)
-}
-
-fn retain<T: Item, Q: Queue<T>>(task: &Task<T>, out: &mut [T::Mark]) -> usize {
-    let mut heap: Q = held(task);
-    heap.retain(T::is_odd);
-    written(heap.as_slice(), out)
-}
-
-fn sorted<T: Item, Q: Queue<T>>(task: &Task<T>, out: &mut [T::Mark]) -> usize {
-    let heap: Q = held(task);
-    let mut count = 0;
-    for (item, place) in heap.into_iter_sorted().zip(out) {
-        *place = item.mark();
-        count += 1;
     }
     count
 }

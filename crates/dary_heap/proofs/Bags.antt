@@ -1,6 +1,9 @@
--- What a bag holds once a value came to it. A bag from which one was taken is read the other way round.
-use Rattle.dary_heap.proofs.Common.{◌≡◌, ◌⊎◌, ◌<◌, List, [], ◌∷◌, ◌++◌, length, set, IsPermutation, Contains, Some, slice_get, inl, inr, refl, subst, arith, Contains-append_right, Contains-append_cases, IsPermutation-sym, IsPermutation-cons, IsPermutation-to_front, Contains-permutation, IsSameBag}
+-- What a bag holds once a value came to it, and which of it is a greatest. A bag from which one was taken is read the other way round. A greatest item bounds the others, in std's word for it.
+use Rattle.dary_heap.proofs.Common.{◌≡◌, ◌≢◌, ◌⊎◌, ◌<◌, List, [], ◌∷◌, ◌++◌, length, Contains, false, Option, Some, None, IfSome, inl, inr, refl, ap, ◌∙◌, subst, arith, Contains-append_right, Contains-append_cases, IsPermutation-sym, Contains-permutation, IsSameBag, front, IsTotalOrder, IsGreatest, AllByRecursion, is_lt, ordering_reverse, Ordering, Less, Equal, Greater}
 use Rattle.dary_heap.proofs.Fronts.{alone}
+use Rattle.dary_heap.proofs.Order.{not_greater-self, not_greater-trans}
+use Rattle.std.specs.BinaryHeap.{IsUpperBound}
+use Rattle.std.specs.Borrow.{Bor}
 
 -- an item of a list is its first or one of the others
 pub Contains-cases : {X : Type 0} (x : X) (xs : List X) (y : X) → Contains (x ∷ xs) y → (x ≡ y) ⊎ Contains xs y
@@ -29,8 +32,38 @@ module _ {X : Type 0} where
   pub came_later : (x : X) (xs ys : List X) (y : X) → IsSameBag (x ∷ xs) ys → Contains xs y → Contains ys y
   came_later x xs ys y bag h = Contains-permutation (x ∷ xs) ys y bag (Contains-later x xs y h)
 
+  pub came_alone : (x : X) (ys : List X) (y : X) → IsSameBag (x ∷ []) ys → Contains ys y → x ≡ y
+  came_alone x ys y bag h = alone x y (Contains-permutation ys (x ∷ []) y (IsPermutation-sym (x ∷ []) ys bag) h)
+
   pub came_cases : (x : X) (xs ys : List X) (y : X) → IsSameBag (x ∷ xs) ys → Contains ys y → (x ≡ y) ⊎ Contains xs y
   came_cases x xs ys y bag h = Contains-cases x xs y (Contains-permutation ys (x ∷ xs) y (IsPermutation-sym (x ∷ xs) ys bag) h)
+
+-- a heap has a front, or no item
+pub front_cases : {X : Type 0} (xs : List X) → (xs ≡ []) ⊎ ((x : X) × (front xs ≡ Some x))
+front_cases [] = inl refl
+front_cases (x ∷ xs) = inr (x, refl)
+
+module _ {X : Type 0} {cmp : X → X → Ordering} where
+  -- an item that no greater one joins stays the greatest
+  pub IsGreatest-stays : (x m : X) (items : List X) → IsGreatest cmp items m → cmp x m ≢ Greater → IsGreatest cmp (x ∷ items) m
+  IsGreatest-stays x m items h under = record {
+    occurs = Contains-later x items m h.occurs;
+    none_above = λ y in'. elim (Contains-cases x items y in') [
+      | inl same ↦ subst (λ (v : X). cmp v m ≢ Greater) same under
+      | inr there ↦ h.none_above y there
+    ];
+  }
+
+  module _ (total : IsTotalOrder cmp) where
+    -- an item that the greatest doesn't exceed is the greatest once it came
+    pub IsGreatest-overtaken : (x m : X) (items : List X) → IsGreatest cmp items m → cmp m x ≢ Greater → IsGreatest cmp (x ∷ items) x
+    IsGreatest-overtaken x m items h over = record {
+      occurs = Contains-first x items;
+      none_above = λ y in'. elim (Contains-cases x items y in') [
+        | inl same ↦ subst (λ (v : X). cmp v x ≢ Greater) same (not_greater-self total x)
+        | inr there ↦ not_greater-trans total y m x (h.none_above y there) over
+      ];
+    }
 
 -- the items of xs are among those values
 abbrev pub IsAmong : {X : Type 0} → List X → List X → Type 0
@@ -49,9 +82,34 @@ module _ {X : Type 0} (values : List X) where
   pub IsAmong-same : (xs ys : List X) → IsSameBag xs ys → IsAmong values xs → IsAmong values ys
   IsAmong-same xs ys same h y in' = h y (Contains-permutation ys xs y (IsPermutation-sym xs ys same) in')
 
--- the last item goes to the first place, whose item is taken out
-pub put_first : {T : Type 0} (xs : List T) (x m : T) → slice_get xs 0 ≡ Some m → IsPermutation (xs ++ x ∷ []) (m ∷ set xs 0 x)
-put_first [] x m first = cc
-put_first (y ∷ ys) x m first =
-    let is : y ≡ m = cc in
-    subst (λ n. IsPermutation (y ∷ ys ++ x ∷ []) (n ∷ x ∷ ys)) is (IsPermutation-cons y (ys ++ x ∷ []) (x ∷ ys) (IsPermutation-to_front ys x))
+-- ---- bounds
+
+by_recursion : {X : Type 0} (P : X → Type 0) (xs : List X) → ((y : X) → Contains xs y → P y) → AllByRecursion P xs
+by_recursion P [] h = tt
+by_recursion P (x ∷ xs) h = (h x (Contains-first x xs), by_recursion P xs (λ y in'. h y (Contains-later x xs y in')))
+
+-- no item is less than itself
+pub not_less : (r : Ordering) → r ≢ Less → is_lt r ≡ false
+not_less Less h = absurd (h refl)
+not_less Equal h = refl
+not_less Greater h = refl
+
+module _ {X : Type 0} {cmp : X → X → Ordering} (total : IsTotalOrder cmp) where
+  bounds : (m : X) (xs : List X) → ((y : X) → Contains xs y → cmp y m ≢ Greater) → IsUpperBound cmp m xs
+  bounds m xs h = by_recursion (λ y. is_lt (cmp m y) ≡ false) xs (λ y in'. not_less (cmp m y) (λ less. h y in' (total.antisymm y m ∙ ap ordering_reverse less)))
+
+  -- a greatest item bounds all
+  pub upper_bound : (items : List X) (m : X) → IsGreatest cmp items m → IsUpperBound cmp m items
+  upper_bound items m h = bounds m items h.none_above
+
+  -- and what a pop leaves
+  pub upper_bound_left : (items rest : List X) (m : X) → IsGreatest cmp items m → IsSameBag items (m ∷ rest) → IsUpperBound cmp m rest
+  upper_bound_left items rest m h bag = bounds m rest (λ y in'. h.none_above y (came_later m rest items y (IsPermutation-sym items (m ∷ rest) bag) in'))
+
+  pub shown_bound : (items : List X) (r : Option (Bor X)) → IfSome r (λ item. IsGreatest cmp items item.now) → IfSome r (λ item. IsUpperBound cmp item.now items)
+  shown_bound items None h = tt
+  shown_bound items (Some m) h = upper_bound items m.now h
+
+  pub popped_bound : (items rest : List X) (r : Option X) → IfSome r (IsGreatest cmp items) → IfSome r (λ item. IsSameBag items (item ∷ rest)) → IfSome r (λ item. IsUpperBound cmp item rest)
+  popped_bound items rest None h bag = tt
+  popped_bound items rest (Some m) h bag = upper_bound_left items rest m h bag

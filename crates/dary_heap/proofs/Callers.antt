@@ -1,6 +1,6 @@
 -- The laws that proofs of callers need, found by `rt lemma`: what a list holds, bags, greatest items, pops in a row, heaps of `Reverse`, and comparisons.
-use Rattle.dary_heap.proofs.Common.{◌≡◌, ◌≢◌, ◌⊎◌, ℕ, ◌+◌, ◌<◌, ◌≤◌, min, Bool, true, false, if◌then◌else◌, List, [], ◌∷◌, ◌++◌, length, map, slice_set, All, Contains, Option, Some, None, Result, Ok, Err, Vec, arith, refl, sym, ap, ◌∙◌, subst, inl, inr, length-append, IsTotalOrder, Yields, nat_cmp, is_lt, ordering_reverse, ordering_then, Global, Ordering, Less, Equal, Greater, cases_lt, All-contains, All-contains_itself, All-weaker, Contains-append_cases, length_permutation, IsPermutation-refl, IsPermutation-sym, IsPermutation-trans, IsPermutation-cons, IsPermutation-middle, IsPermutation-append_left, IsSameBag, IsGreatest, Contents, IsPop, IsDescending, IsGivenDescending, front}
-use Rattle.std.proofs.Common.{IfOk}
+use Rattle.dary_heap.proofs.{◌≡◌, ◌≢◌, ℕ, ◌+◌, ◌<◌, ◌≤◌, min, Bool, true, false, if◌then◌else◌, List, [], ◌∷◌, ◌++◌, length, map, slice_set, All, Contains, Option, Some, None, Result, Ok, Err, Vec, arith, refl, sym, ap, ◌∙◌, subst, inl, inr, length-append, IsTotalOrder, Yields, nat_cmp, is_lt, ordering_reverse, ordering_then, Global, Ordering, Less, Greater, cases_lt, All-contains, All-contains_itself, All-weaker, Contains-append_cases, length_permutation, IsPermutation-refl, IsPermutation-sym, IsPermutation-trans, IsPermutation-cons, IsPermutation-middle, IsPermutation-append_left, IsSameBag, IsGreatest, Contents, IsPop, IsDescending, IsGivenDescending, front, zero, suc, get_or, slice_get, get_or_from_slice_get, slice_get_within, parent, IsHeapOrdered, alone, not_less, read}
+use Rattle.std.proofs.Common.{IfOk, OnOk, is_ok}
 use Rattle.std.specs.Iterator.Adapters.{take_count, take_source, take_steps}
 use Rattle.std.specs.Ordering.{is_some_and}
 use Rattle.std.specs.declared.alloc.AllocError.{AllocError}
@@ -10,17 +10,20 @@ use Rattle.std.proofs.lemmas.Cmp.{ranked, by_ranked}
 use Rattle.std.proofs.lemmas.Iterator.{IsCollectResult}
 use Rattle.std.proofs.lemmas.List.Elements.{All-cons, All-map, All-tail}
 use Rattle.std.proofs.lemmas.List.Sorted.{All-permutation, IsPermutation-map, IsPermutation-append_right, IsPermutation-pop_more}
-use Rattle.dary_heap.proofs.Fronts.{alone}
 use Rattle.dary_heap.proofs.iter.Popping.{pops_give}
-pub use Rattle.dary_heap.proofs.Bags.{Contains-cases, Contains-first, Contains-later, holds_none, has_none, came_first, came_later, came_cases}
-pub use Rattle.dary_heap.proofs.Bounded.{upper_bound, upper_bound_left}
+use Rattle.std.proofs.lemmas.Iterator.Adapters.{YieldsAtMost}
+use Rattle.std.specs.BinaryHeap.{IsHeap}
+use Rattle.dary_heap.specs.Extending.{IsRefusedAfter}
+pub use Rattle.dary_heap.proofs.Bags.{IsGreatest-stays, IsGreatest-overtaken, front_cases, Contains-cases, Contains-first, Contains-later, holds_none, has_none, came_first, came_later, came_cases, upper_bound, upper_bound_left}
+pub use Rattle.dary_heap.proofs.Order.{not_greater-self, not_greater-trans}
 pub use Rattle.dary_heap.proofs.Callable.{takes_in_turn, all_callable}
 pub use Rattle.dary_heap.proofs.Cancelling.{IsPermutation-uncons}
-pub use Rattle.dary_heap.proofs.sift.Fixing.{ordered_but_at, overwritten}
-pub use Rattle.dary_heap.proofs.FromStd.{std_heap_from_ordered, ordered_from_std_heap, descending_at, extend_fits, on_ok_of}
+pub use Rattle.dary_heap.proofs.sift.Parts.{ordered_but_at, overwritten}
 pub use Rattle.dary_heap.proofs.peek_mut.Lowering.{sum_falls}
-pub use Rattle.dary_heap.proofs.Order.{not_greater-self, not_greater-trans}
 pub use Rattle.dary_heap.proofs.iter.Popping.{none_first, pops_list, pops_descend}
+
+lt_no : (r : Ordering) → is_lt r ≡ false → ordering_reverse r ≢ Greater
+lt_no r h e = grind arith
 
 -- ---- what a list holds
 
@@ -34,11 +37,6 @@ Contains-map {X} {Y} f (y ∷ ys) x h = elim (Contains-cases y ys x h) [
 -- what holds of each item of a list holds of what it is mapped to
 pub All-mapped : {X Y : Type 0} (P : Y → Type 0) (f : X → Y) (xs : List X) → ((x : X) → Contains xs x → P (f x)) → All P (map f xs)
 All-mapped P f xs h = All-map P f xs (All-weaker (Contains xs) (λ x. P (f x)) h xs (All-contains_itself xs))
-
--- a heap has a front, or no item
-pub front_cases : {X : Type 0} (xs : List X) → (xs ≡ []) ⊎ ((x : X) × (front xs ≡ Some x))
-front_cases [] = inl refl
-front_cases (x ∷ xs) = inr (x, refl)
 
 -- ---- bags
 
@@ -57,30 +55,6 @@ IsSameBag-moved x from to left new went came =
     (IsPermutation-trans _ _ _
     (IsPermutation-sym (left ++ x ∷ to) (x ∷ (left ++ to)) (IsPermutation-middle left x to))
     (IsPermutation-append_right left (x ∷ to) new came))
-
--- ---- greatest items
-
-module _ {X : Type 0} {cmp : X → X → Ordering} where
-  -- an item that no greater one joins stays the greatest
-  pub IsGreatest-stays : (x m : X) (items : List X) → IsGreatest cmp items m → cmp x m ≢ Greater → IsGreatest cmp (x ∷ items) m
-  IsGreatest-stays x m items h under = record {
-    occurs = Contains-later x items m h.occurs;
-    none_above = λ y in'. elim (Contains-cases x items y in') [
-      | inl same ↦ subst (λ (v : X). cmp v m ≢ Greater) same under
-      | inr there ↦ h.none_above y there
-    ];
-  }
-
-  module _ (total : IsTotalOrder cmp) where
-    -- an item that the greatest doesn't exceed is the greatest once it came
-    pub IsGreatest-overtaken : (x m : X) (items : List X) → IsGreatest cmp items m → cmp m x ≢ Greater → IsGreatest cmp (x ∷ items) x
-    IsGreatest-overtaken x m items h over = record {
-      occurs = Contains-first x items;
-      none_above = λ y in'. elim (Contains-cases x items y in') [
-        | inl same ↦ subst (λ (v : X). cmp v x ≢ Greater) same (not_greater-self total x)
-        | inr there ↦ not_greater-trans total y m x (h.none_above y there) over
-      ];
-    }
 
 -- ---- pops in a row
 
@@ -209,14 +183,7 @@ module _ {X : Type 0} (Gives : X → Bool → Type 0) where
 -- ---- from a comparison in the code to `cmp`
 
 lt_yes : (r : Ordering) → is_lt r ≡ true → r ≡ Less
-lt_yes Less h = refl
-lt_yes Equal h = cc
-lt_yes Greater h = cc
-
-lt_no : (r : Ordering) → is_lt r ≡ false → ordering_reverse r ≢ Greater
-lt_no Less h e = cc
-lt_no Equal h e = cc
-lt_no Greater h e = cc
+lt_yes r h = grind arith
 
 -- what is strictly less is not strictly greater
 pub not_greater-less : {X : Type 0} (cmp : X → X → Ordering) (x y : X) → cmp x y ≡ Less → cmp x y ≢ Greater
@@ -242,3 +209,51 @@ nat_le_from_cmp a b h = by_ranked (a < b) (a ≡ b) (b < a) (nat_cmp a b) (ranke
 -- numbers that are compared first, and whatever else if they are equal, as a derived `Ord` compares them
 pub nat_le_from_first : (a b : ℕ) (rest : Ordering) → ordering_then (nat_cmp a b) rest ≢ Greater → a ≤ b
 nat_le_from_first a b rest h = nat_le_from_cmp a b (λ is. h (ap (λ (o : Ordering). ordering_then o rest) is))
+
+-- ---- what proofs of callers of std's heap have, of this one: heap order at arity 2, places in descending order, room for what an iterator gives, and an outcome whose error was mapped
+
+module _ {X : Type 0} {cmp : X → X → Ordering} (total : IsTotalOrder cmp) where
+  -- heap order at arity 2 is std's
+  pub std_heap_from_ordered : (xs : List X) → IsHeapOrdered cmp 2 xs → IsHeap cmp xs
+  unfolding IsHeap
+  std_heap_from_ordered xs h p k d low from to within =
+      let above : parent 2 k ≡ p = omega arith in
+      let x = read xs p (omega arith) in
+      let y = read xs k within in
+      let up : cmp y.0 x.0 ≢ Greater = (h.below_parent k (omega arith)).not_greater y.0 x.0 y.1 (ap (slice_get xs) above ∙ x.1) in
+      ap (λ v. is_lt (cmp v (get_or xs k d))) (get_or_from_slice_get xs p x.0 d x.1)
+      ∙ ap (λ v. is_lt (cmp x.0 v)) (get_or_from_slice_get xs k y.0 d y.1)
+      ∙ not_less (cmp x.0 y.0) (λ less. up (total.antisymm y.0 x.0 ∙ ap ordering_reverse less))
+
+  pub ordered_from_std_heap : (xs : List X) → IsHeap cmp xs → IsHeapOrdered cmp 2 xs
+  unfolding IsHeap
+  ordered_from_std_heap xs h = record {
+    below_parent = λ i pos. record {
+      not_greater = λ x y at_i at_p greater.
+          let p = parent 2 i in
+          let told = h p i x (omega arith) (omega (arith, pos)) (omega (arith, pos)) (slice_get_within xs i x at_i) in
+          let found = ap (λ v. is_lt (cmp y v)) (sym (get_or_from_slice_get xs i x x at_i)) ∙ ap (λ v. is_lt (cmp v (get_or xs i x))) (sym (get_or_from_slice_get xs p y x at_p)) ∙ told in
+          lt_no (cmp y x) found (sym (total.antisymm x y) ∙ greater);
+    };
+  }
+
+  -- of two places of a descending list the later has no greater item
+  pub descending_at : (xs : List X) → IsDescending cmp xs → (i j : ℕ) (x y : X) → i ≤ j → slice_get xs i ≡ Some x → slice_get xs j ≡ Some y → cmp y x ≢ Greater
+  descending_at [] h i j x y before at_i at_j = absurd (omega (arith, slice_get_within [] i x at_i))
+  descending_at (z ∷ zs) h zero zero x y before at_i at_j = let same : x ≡ y = cc in subst (λ v. cmp v x ≢ Greater) same (not_greater-self total x)
+  descending_at (z ∷ zs) h zero (suc j) x y before at_i at_j =
+      let same : z ≡ x = cc in
+      subst (λ v. cmp y v ≢ Greater) same (h.0 y (j, slice_get_within zs j y at_j, get_or_from_slice_get zs j y y at_j))
+  descending_at (z ∷ zs) h (suc i) zero x y before at_i at_j = absurd (omega (arith, before))
+  descending_at (z ∷ zs) h (suc i) (suc j) x y before at_i at_j = descending_at zs h.1 i j x y (omega (arith, before)) at_i at_j
+
+-- an iterator that gives at most n items can't lack room for n
+pub extend_fits : {S A : Type 0} {steps : S → Option A → S → Type 0} {from : S} (n : ℕ) (xs : List A) (len capacity : ℕ) → YieldsAtMost steps from n → len + n ≤ capacity → IsRefusedAfter steps from xs len capacity → ⊥
+extend_fits n xs len capacity few room h = omega (arith, few.runs _ _ h.gave, length-append xs (h.refused ∷ []), h.full, room)
+
+-- what is told of one outcome is told of another with the same variant: `map_err` leaves an `Ok` an `Ok`
+pub on_ok_of : {A E F : Type 0} (r : Result A E) (s : Result A F) {P Q : Type 0} → is_ok s ≡ is_ok r → OnOk r P → (P → Q) → OnOk s Q
+on_ok_of (Ok x) (Ok y) same h f = f h
+on_ok_of (Ok x) (Err e) same h f = tt
+on_ok_of (Err e) (Ok y) same h f = absurd (cc)
+on_ok_of (Err e) (Err d) same h f = tt

@@ -49,7 +49,7 @@ pub use Rattle.dary_heap.specs.PeekMut.{loaned}
 pub use Rattle.dary_heap.specs.Popping.{IsDescending, IsGivenDescending, IsPop}
 pub use Rattle.dary_heap.specs.Run.{IsServed, Runs, Serves, room, sure_after}
 pub use Rattle.dary_heap.specs.Searching.{IsAlong, Relaxes, state, state_cmp}
-pub use Rattle.dary_heap.specs.Sifting.{IsLastGreatest, IsOrderedButAbove, IsOrderedButBelow, IsOrderedWithin, SiftedDown, StaysFirst}
+pub use Rattle.dary_heap.specs.Sifting.{IsLastGreatest, IsOrderedButAbove, IsOrderedButBelow, IsOrderedWithin, StaysFirst}
 unfoldable pub use Rattle.dary_heap.specs.Sifting.{sift_down_cost}
 pub use Rattle.dary_heap.specs.State.{IsJoined, IsSameState, IsState, front, front_with}
 pub use Rattle.dary_heap.specs.Tail.{IsWeight}

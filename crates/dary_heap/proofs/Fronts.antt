@@ -1,27 +1,6 @@
 -- Which item is the first once an item came in.
-use Rattle.dary_heap.proofs.Common.{◌≡◌, ◌≢◌, ℕ, inl, inr, zero, suc, ◌<◌, List, [], ◌∷◌, ◌++◌, length, refl, sym, ap, ◌∙◌, subst, arith, Some, slice_get, Contains, IsPermutation, if◌then◌else◌, length-append, cases_eq, slice_get_within, Contains-append_cases, Contains-push, IsPermutation-refl, IsPermutation-sym, Contains-permutation, length_permutation, IsTotalOrder, is_gt, Ordering, Less, Equal, Greater, IsHeapOrdered, StaysFirst, IsState, IsSameState, front, front_with}
-use Rattle.dary_heap.proofs.Exchange.{Exchanges, slice_get-append}
-use Rattle.dary_heap.proofs.Order.{first_is_greatest, not_greater-trans, read}
-
--- on the way up from place, the item that came from there is at `at`, and the first is where it was, unless that item is strictly greater
-pub record StaysOnTheWay {X : Type 0} (cmp : X → X → Ordering) (place at : ℕ) (old new : List X) : Type 0 where
-  pub held : (f x : X) → slice_get old 0 ≡ Some f → slice_get old place ≡ Some x → cmp x f ≢ Greater → (slice_get new 0 ≡ Some f) × (slice_get new at ≡ Some x)
-
-module _ {X : Type 0} {cmp : X → X → Ordering} where
-  -- the item at j is strictly greater than its parent's, and they change places
-  pub StaysOnTheWay-step : (old xs ys : List X) (place j p : ℕ) (a b : X) → 0 < j → p < j → slice_get xs j ≡ Some a → slice_get xs p ≡ Some b → cmp a b ≡ Greater → Exchanges xs ys j p → StaysOnTheWay cmp place j old xs → StaysOnTheWay cmp place p old ys
-  StaysOnTheWay-step old xs ys place j p a b up below a_is b_is above e h = record {
-    held = λ f x first at under.
-        let now = h.held f x first at under in
-        let same : a ≡ x = (cc) in
-        elim (cases_eq p 0) [
-          | inl top ↦ absurd (under (let other : b ≡ f = (let here : slice_get xs 0 ≡ Some b = subst (λ k. slice_get xs k ≡ Some b) top b_is in cc) in cc))
-          | inr lower ↦ (e.others 0 (omega arith) (λ is. lower (sym is)) ∙ now.0, e.second ∙ now.1)
-        ];
-  }
-
-  pub StaysFirst-from : (place at : ℕ) (old new : List X) → StaysOnTheWay cmp place at old new → StaysFirst cmp place old new
-  StaysFirst-from place at old new h = record { stays = λ f x p q r. (h.held f x p q r).0 }
+use Rattle.dary_heap.proofs.Common.{◌≡◌, ◌≢◌, ℕ, inl, inr, zero, suc, ◌<◌, List, [], ◌∷◌, ◌++◌, length, refl, sym, ap, ◌∙◌, subst, arith, Some, slice_get, Contains, IsPermutation, if◌then◌else◌, length-append, slice_get_within, Contains-append_cases, Contains-push, IsPermutation-refl, IsPermutation-sym, Contains-permutation, length_permutation, IsTotalOrder, is_gt, Ordering, Less, Equal, Greater, IsHeapOrdered, StaysFirst, IsState, IsSameState, front, front_with}
+use Rattle.dary_heap.proofs.Order.{slice_get-append, first_is_greatest, not_greater-trans, read, slice_get-push}
 
 -- the one item of a list
 pub alone : {X : Type 0} (x m : X) → Contains (x ∷ []) m → x ≡ m
@@ -54,14 +33,10 @@ module _ {X : Type 0} {cmp : X → X → Ordering} (total : IsTotalOrder cmp) (D
         | inr new ↦ t.1 ∙ ap Some (sym (alone x t.0 new))
       ]
 
-  last : (xs : List X) → slice_get (xs ++ x ∷ []) (length xs) ≡ Some x
-  last [] = refl
-  last (y ∷ xs) = last xs
-
   below : (xs : List X) (f : X) → slice_get xs 0 ≡ Some f → ws ≡ xs ++ x ∷ [] → StaysFirst cmp (length xs) ws zs → cmp x f ≢ Greater → slice_get zs 0 ≡ Some f
   below xs f first is stays under =
       let within : 0 < length xs = slice_get_within xs 0 f first in
-      stays.stays f x (ap (λ l. slice_get l 0) is ∙ slice_get-append xs (x ∷ []) 0 within ∙ first) (ap (λ l. slice_get l (length xs)) is ∙ last xs) under
+      stays.stays f x (ap (λ l. slice_get l 0) is ∙ slice_get-append xs (x ∷ []) 0 within ∙ first) (ap (λ l. slice_get l (length xs)) is ∙ slice_get-push xs x) under
 
   by_test : (xs : List X) (f : X) → slice_get xs 0 ≡ Some f → IsHeapOrdered cmp D xs → ws ≡ xs ++ x ∷ [] → StaysFirst cmp (length xs) ws zs → (r : Ordering) → cmp x f ≡ r → slice_get zs 0 ≡ Some (if is_gt r then x else f)
   by_test xs f first before is stays Greater e = above xs f first before is e

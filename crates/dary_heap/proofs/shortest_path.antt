@@ -1,8 +1,6 @@
 -- The lemmas of the module `shortest_path`.
 pub mod Apart
-pub mod Cheapest
 pub mod Examining
 pub mod Relaxing
 pub mod Searching
-pub mod Walks
 pub mod WalksAt

@@ -35,55 +35,37 @@ mod join;
 ///
 /// ```
 /// use dary_heap::BinaryHeap;
-///
 /// let mut scores = BinaryHeap::new(alloc);
-/// assert_eq!(rt; scores.peek(), None);
-///
 /// scores.push(20)?;
 /// scores.push(50)?;
 /// scores.push(30)?;
-/// assert_eq!(rt; scores.peek(), Some(&50));
-/// assert_eq!(rt; scores.len(), 3);
-///
 /// assert_eq!(rt; scores.pop(), Some(50));
 /// assert_eq!(rt; scores.pop(), Some(30));
 /// assert_eq!(rt; scores.pop(), Some(20));
 /// assert_eq!(rt; scores.pop(), None);
 /// ```
 ///
-/// ## Min-heap
-///
-/// Items in `Reverse` come out least first.
+/// Items in `Reverse` come out least first:
 ///
 /// ```
 /// use dary_heap::TernaryHeap;
 /// use std::cmp::Reverse;
-///
-/// let mut heap = TernaryHeap::new(alloc);
-/// heap.push(Reverse(1))?;
-/// heap.push(Reverse(5))?;
-/// heap.push(Reverse(2))?;
+/// let mut heap = TernaryHeap::from(vec![in alloc; Reverse(1), Reverse(5), Reverse(2)]?);
 /// assert_eq!(rt; heap.pop(), Some(Reverse(1)));
 /// assert_eq!(rt; heap.pop(), Some(Reverse(2)));
-/// assert_eq!(rt; heap.pop(), Some(Reverse(5)));
 /// ```
 ///
-/// ## If memory allocation fails
-///
-/// A push returns the item, and the heap is as it was. After a [`reserve`](DaryHeap::reserve) of
-/// enough room no push fails.
+/// If memory allocation fails, a push returns the item, and the heap is as it was. After a
+/// [`reserve`](DaryHeap::reserve) of enough room no push fails:
 ///
 /// ```
 /// use dary_heap::DaryHeap;
-///
 /// let mut heap = DaryHeap::<_, 16>::new(alloc);
 /// if let Err(item) = heap.push("wash") {
-///     // There was no memory for it, and the heap is still empty.
 ///     assert_eq!(rt; item, "wash");
 /// }
-/// heap.reserve(2)?;
+/// heap.reserve(1)?;
 /// assert_eq!(rt; heap.push("cook"), Ok(()));
-/// assert_eq!(rt; heap.push("sweep"), Ok(()));
 /// ```
 #[derive(Drop)]
 pub struct DaryHeap<T: Ord, const D: usize> {
@@ -125,7 +107,7 @@ pub type SeptenaryHeap<T> = DaryHeap<T, 7>;
 pub type OctonaryHeap<T> = DaryHeap<T, 8>;
 
 impl<T: Ord, const D: usize> DaryHeap<T, D> {
-    /// Returns an empty heap.
+    /// Returns an empty heap. Takes *O*(1), without a comparison.
     ///
     /// It allocates no memory before an item is pushed or room is reserved.
     ///
@@ -133,15 +115,10 @@ impl<T: Ord, const D: usize> DaryHeap<T, D> {
     ///
     /// ```
     /// use dary_heap::QuaternaryHeap;
-    ///
     /// let mut heap = QuaternaryHeap::new(alloc);
     /// heap.push(4)?;
     /// assert_eq!(rt; heap.into_vec().as_slice(), [4].as_slice());
     /// ```
-    ///
-    /// # Time
-    ///
-    /// *O*(1), without a comparison.
     pub fn new(alloc: Global) -> Self
         ensures items { result.items ≡ [] }
         ensures capacity { result.capacity ≡ 0 }
@@ -153,20 +130,15 @@ impl<T: Ord, const D: usize> DaryHeap<T, D> {
         }
     }
 
-    /// Returns the number of items.
+    /// Returns the number of items. Takes *O*(1), without a comparison.
     ///
     /// # Examples
     ///
     /// ```
     /// use dary_heap::BinaryHeap;
-    ///
     /// let heap = BinaryHeap::from(vec![in alloc; 1, 3]?);
     /// assert_eq!(rt; heap.len(), 2);
     /// ```
-    ///
-    /// # Time
-    ///
-    /// *O*(1), without a comparison.
     pub fn len(&self) -> usize
         ensures len { result ≡ length self.now.items }
         ensures ordered { IsHeapOrdered T.cmp D self.now.items }
@@ -174,22 +146,15 @@ impl<T: Ord, const D: usize> DaryHeap<T, D> {
         self.items.len()
     }
 
-    /// Returns `true` if the heap has no items.
+    /// Returns `true` if the heap has no items. Takes *O*(1), without a comparison.
     ///
     /// # Examples
     ///
     /// ```
     /// use dary_heap::BinaryHeap;
-    ///
-    /// let mut heap = BinaryHeap::new(alloc);
-    /// assert!(rt; heap.is_empty());
-    /// heap.push(3)?;
-    /// assert!(rt; !heap.is_empty());
+    /// assert!(rt; BinaryHeap::<i32>::new(alloc).is_empty());
+    /// assert!(rt; !BinaryHeap::from(vec![in alloc; 3]?).is_empty());
     /// ```
-    ///
-    /// # Time
-    ///
-    /// *O*(1), without a comparison.
     pub fn is_empty(&self) -> bool
         ensures empty { result ≡ (length self.now.items == 0) }
         ensures ordered { IsHeapOrdered T.cmp D self.now.items }
@@ -197,7 +162,8 @@ impl<T: Ord, const D: usize> DaryHeap<T, D> {
         self.items.is_empty()
     }
 
-    /// Returns the number of items that there is room for. It is never less than the length.
+    /// Returns the number of items that there is room for. It is never less than the length. Takes
+    /// *O*(1), without a comparison.
     ///
     /// A push allocates memory only if the length has reached the capacity.
     ///
@@ -205,16 +171,9 @@ impl<T: Ord, const D: usize> DaryHeap<T, D> {
     ///
     /// ```
     /// use dary_heap::OctonaryHeap;
-    ///
-    /// let mut heap = OctonaryHeap::with_capacity(alloc, 100)?;
-    /// assert!(rt; heap.capacity() >= 100);
-    /// heap.push(4)?;
+    /// let heap = OctonaryHeap::<i32>::with_capacity(alloc, 100)?;
     /// assert!(rt; heap.capacity() >= 100);
     /// ```
-    ///
-    /// # Time
-    ///
-    /// *O*(1), without a comparison.
     pub fn capacity(&self) -> usize
         ensures capacity { result ≡ self.now.capacity }
         ensures holds { length self.now.items ≤ result }
@@ -222,7 +181,7 @@ impl<T: Ord, const D: usize> DaryHeap<T, D> {
         self.items.capacity()
     }
 
-    /// Returns the items in the order in which they are stored.
+    /// Returns the items in the order in which they are stored. Takes *O*(1), without a comparison.
     ///
     /// The slice is heap ordered: no item is strictly greater than its parent, which is the item at
     /// `(place - 1) / D`. So the first item is a greatest one.
@@ -231,14 +190,9 @@ impl<T: Ord, const D: usize> DaryHeap<T, D> {
     ///
     /// ```
     /// use dary_heap::TernaryHeap;
-    ///
     /// let heap = TernaryHeap::from(vec![in alloc; 1, 2, 3, 4]?);
     /// assert_eq!(rt; heap.as_slice(), [4, 2, 3, 1].as_slice());
     /// ```
-    ///
-    /// # Time
-    ///
-    /// *O*(1), without a comparison.
     pub fn as_slice(&self) -> &[T]
         ensures items { result.now ≡ self.now.items }
         ensures ordered { IsHeapOrdered T.cmp D self.now.items }
@@ -246,7 +200,7 @@ impl<T: Ord, const D: usize> DaryHeap<T, D> {
         self.items.as_slice()
     }
 
-    /// Returns a greatest item, or `None` if the heap is empty.
+    /// Returns a greatest item, or `None` if the heap is empty. Takes *O*(1), without a comparison.
     ///
     /// It is the first item of [`as_slice`](DaryHeap::as_slice), and the one that the next
     /// [`pop`](DaryHeap::pop) returns.
@@ -255,18 +209,9 @@ impl<T: Ord, const D: usize> DaryHeap<T, D> {
     ///
     /// ```
     /// use dary_heap::BinaryHeap;
-    ///
-    /// let mut heap = BinaryHeap::new(alloc);
-    /// assert_eq!(rt; heap.peek(), None);
-    /// heap.push(1)?;
-    /// heap.push(5)?;
-    /// heap.push(2)?;
+    /// let heap = BinaryHeap::from(vec![in alloc; 1, 5, 2]?);
     /// assert_eq!(rt; heap.peek(), Some(&5));
     /// ```
-    ///
-    /// # Time
-    ///
-    /// *O*(1), without a comparison.
     pub fn peek(&self) -> Option<&T>
         ensures variant { IsSome result ↔ (0 < length self.now.items) }
         ensures first { option_copied result ≡ slice_get self.now.items 0 }
@@ -281,7 +226,8 @@ impl<T: Ord, const D: usize> DaryHeap<T, D> {
     ///
     /// If the heap was empty, or the item is strictly greater than the one that
     /// [`peek`](DaryHeap::peek) returned, `peek` returns the new item from then on. Otherwise it
-    /// returns the same item as before.
+    /// returns the same item as before. A push takes at most as many comparisons as the new place
+    /// is deep, which is *O*(log *n*) from arity 2 on.
     ///
     /// # Errors
     ///
@@ -292,18 +238,11 @@ impl<T: Ord, const D: usize> DaryHeap<T, D> {
     ///
     /// ```
     /// use dary_heap::TernaryHeap;
-    ///
     /// let mut heap = TernaryHeap::new(alloc);
     /// heap.push(3)?;
     /// heap.push(5)?;
-    /// heap.push(1)?;
-    /// assert_eq!(rt; heap.len(), 3);
     /// assert_eq!(rt; heap.peek(), Some(&5));
     /// ```
-    ///
-    /// # Time
-    ///
-    /// At most as many comparisons as the new place is deep, which is *O*(log *n*) from arity 2 on.
     #[inline]
     pub fn push(&mut self, item: T) -> Result<(), T>
         ensures bag { OnOk result (IsSameBag (item ∷ self.old.items) self.new.items) }
@@ -329,23 +268,19 @@ impl<T: Ord, const D: usize> DaryHeap<T, D> {
 
     /// Removes a greatest item and returns it, or returns `None` if the heap is empty.
     ///
-    /// It is the item that [`peek`](DaryHeap::peek) returns. The capacity stays the same.
+    /// It is the item that [`peek`](DaryHeap::peek) returns. The capacity stays the same. A pop
+    /// takes at most as many comparisons as the arity times the depth of the last place that
+    /// remains, which is *O*(log *n*) from arity 2 on.
     ///
     /// # Examples
     ///
     /// ```
     /// use dary_heap::QuaternaryHeap;
-    ///
     /// let mut heap = QuaternaryHeap::from(vec![in alloc; 1, 3]?);
     /// assert_eq!(rt; heap.pop(), Some(3));
     /// assert_eq!(rt; heap.pop(), Some(1));
     /// assert_eq!(rt; heap.pop(), None);
     /// ```
-    ///
-    /// # Time
-    ///
-    /// At most the arity times the depth of the last place that remains, in comparisons, which is
-    /// *O*(log *n*) from arity 2 on.
     #[inline]
     pub fn pop(&mut self) -> Option<T>
         ensures variant { IsSome result ↔ (0 < length self.old.items) }

@@ -10,11 +10,8 @@
 //! | [`DrainSorted`] | [`drain_sorted`](crate::DaryHeap::drain_sorted) | by value; the heap is empty afterwards | descending |
 //!
 //! `len` returns how many items are left, and after a `None` each returns `None` again. The first
-//! three compare nothing.
-//!
-//! A clause sees the first three as the list of the items that are left: `next` returns the first
-//! of it, `next_back` the last. It sees [`IntoIterSorted`] and [`DrainSorted`] as the heap that
-//! they pop from.
+//! three compare nothing. A clause sees them as the list of the items that are left, and the last
+//! two as the heap that they pop from.
 
 mod drain;
 mod drain_sorted;

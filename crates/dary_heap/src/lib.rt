@@ -7,14 +7,12 @@
 //!
 //! ```
 //! use dary_heap::TernaryHeap;
-//!
 //! let mut heap = TernaryHeap::new(alloc);
 //! heap.push(1)?;
 //! heap.push(5)?;
-//! heap.push(2)?;
 //! assert_eq!(rt; heap.peek(), Some(&5));
 //! assert_eq!(rt; heap.pop(), Some(5));
-//! assert_eq!(rt; heap.len(), 2);
+//! assert_eq!(rt; heap.len(), 1);
 //! ```
 //!
 //! Each example of these pages is run as a test: `rt` is the test's `HostRuntime`, and `alloc` is
@@ -22,19 +20,11 @@
 //!
 //! # Arities
 //!
-//! | name | arity |
-//! |---|---|
-//! | [`BinaryHeap`] | 2 |
-//! | [`TernaryHeap`] | 3 |
-//! | [`QuaternaryHeap`] | 4 |
-//! | [`QuinaryHeap`] | 5 |
-//! | [`SenaryHeap`] | 6 |
-//! | [`SeptenaryHeap`] | 7 |
-//! | [`OctonaryHeap`] | 8 |
-//!
-//! Any other arity is written `DaryHeap<T, D>`. Arity 1 keeps a sorted vector, and arity 0 acts as
-//! arity 1. A greater arity makes the tree flatter: a push takes fewer comparisons, a pop more.
-//! This table comes from measurements:
+//! The arities from 2 to 8 have names: [`BinaryHeap`], [`TernaryHeap`], [`QuaternaryHeap`],
+//! [`QuinaryHeap`], [`SenaryHeap`], [`SeptenaryHeap`] and [`OctonaryHeap`]. Any other is written
+//! `DaryHeap<T, D>`. Arity 1 keeps a sorted vector, and arity 0 acts as arity 1. A greater arity
+//! makes the tree flatter: a push takes fewer comparisons, a pop more. This table comes from
+//! measurements:
 //!
 //! | use | arity |
 //! |---|---|
@@ -64,16 +54,10 @@
 //!
 //! # Modules
 //!
-//! From the bottom up:
-//!
-//! - [`sift`] moves items along the paths of the tree, for any judge of items, and counts
-//!   comparisons;
-//! - [`heap`] has the heap;
-//! - [`peek_mut`] has [`PeekMut`], through which a heap's greatest item is read and written;
-//! - [`iter`] has the iterators over the items of a heap, as they are stored or in descending
-//!   order;
-//! - [`run`] carries lists of commands out, by the machine that says what a heap may reply;
-//! - [`shortest_path`] searches a graph for a cheapest walk, over a heap.
+//! From the bottom up: [`sift`] moves items along the paths of the tree, for any judge of items, and
+//! counts comparisons; [`heap`] has the heap, [`peek_mut`] its greatest item for reading and
+//! writing, and [`iter`] its iterators; [`run`] carries out lists of commands, and
+//! [`shortest_path`] searches a graph.
 #![tactic(auto)]
 
 pub mod heap;

@@ -1,15 +1,12 @@
 //! The greatest item of a heap, to be read, written or taken out.
 //!
-//! [`PeekMut`] holds the heap by its reference, with the heap's vector in its own hands and an
-//! empty one in the heap. When it ends the vector goes back. So a `PeekMut` that is forgotten
-//! leaves a heap without items, and no call of it allocates memory.
+//! [`PeekMut`] has the heap's vector in its own hands, and an empty one stands in the heap until it
+//! ends. So no call of it allocates memory.
 //!
 //! The contracts call a `PeekMut` a *loan*, and its item the one *on loan*. A clause sees a loan by
-//! the words of `specs/PeekMut.antt`: as `loaned` the heap's contents, whose first item is the one
-//! on loan as it was last written, and as `is_written` whether it may have been written since the
-//! loan began or was refreshed. What its end leaves behind the reference is `exit.0.now`, the
-//! heap's contents.
-ghost use Rattle.dary_heap.specs.Loan.{IsLent, IsLent-prop};
+//! the words of `specs/PeekMut.antt`, and what its end leaves behind the reference as `exit.0.now`,
+//! the heap's contents.
+ghost use Rattle.dary_heap.specs.Loan.{IsLent, IsLent-prop, IsExceeded};
 
 use crate::heap::DaryHeap;
 use crate::sift::{ByOrd, sink_with};
@@ -25,28 +22,23 @@ mod methods;
 /// A write may change the item's order. The item counts as written from a call of `deref_mut` until
 /// the next [`refresh`](PeekMut::refresh). When the `PeekMut` is dropped, a written item goes down
 /// to its place. If no other item is strictly greater than it, no item moves. The heap's capacity
-/// stays the same.
+/// stays the same. If a `PeekMut` is forgotten by `mem::forget`, the heap is empty afterwards. It
+/// may still be used.
 ///
-/// If a `PeekMut` is forgotten by `mem::forget`, the heap is empty afterwards. It may still be
-/// used.
+/// The drop takes no comparison and leaves the heap as it was if the item was not written, or is
+/// the only one. Otherwise it takes at most as many comparisons as the arity times the depth of the
+/// last place, and at most one more than a [`pop`](DaryHeap::pop) may take.
 ///
 /// # Examples
 ///
 /// ```
 /// use dary_heap::TernaryHeap;
-///
 /// let mut heap = TernaryHeap::from(vec![in alloc; 1, 5, 2]?);
 /// if let Some(mut greatest) = heap.peek_mut() {
 ///     *greatest = 0;
 /// }
 /// assert_eq!(rt; heap.as_slice(), [2, 1, 0].as_slice());
 /// ```
-///
-/// # Time
-///
-/// If the item was written and is not the only one, the drop takes at most the arity times the
-/// depth of the last place, in comparisons, and at most one more than a [`pop`](DaryHeap::pop) may
-/// take. Otherwise it takes none, and leaves the heap as it was.
 // The type of `items` is a parameter, which callers leave out, for the reason that `Held` gives.
 pub struct PeekMut<'a, T: Ord, const D: usize, I: Held<T> = Vec<T>> {
     heap: &'a mut DaryHeap<T, D>,
@@ -60,7 +52,6 @@ impl<'a, T: Ord + Drop, const D: usize, I: Held<T>> Drop for PeekMut<'a, T, D, I
     ghost use Rattle.dary_heap.specs.Bag.{IsSameBag};
     ghost use Rattle.dary_heap.specs.Bounds.{RisesWithin, pop_bound, sink_bound};
     ghost use Rattle.dary_heap.specs.HeapOrder.{IsHeapOrdered};
-    ghost use Rattle.dary_heap.specs.Loan.{IsExceeded};
     ghost use Rattle.dary_heap.specs.PeekMut.{loaned, is_written};
     ghost use Rattle.dary_heap.specs.State.{front};
 

@@ -1,10 +1,9 @@
 //! Lists of commands, and the replies to them.
 //!
-//! [`run`] carries a list of commands out on a heap. Its contract says that the replies and the
-//! items are a run of the *bag machine* of `specs/Machine.antt`, which says what a priority queue
-//! may reply, and knows no tree and no memory. Its state is a bag of items, which is a multiset,
-//! and their *front*, an item that no other exceeds: a question is about the front, and a pop
-//! returns it.
+//! The contract of [`run`] says that the replies and the items are a run of the *bag machine* of
+//! `specs/Machine.antt`, which says what a priority queue may reply, and knows no tree and no
+//! memory. Its state is a bag of items, which is a multiset, and their *front*, an item that no
+//! other exceeds: a question is about the front, and a pop returns it.
 ghost use Rattle.std.specs.Prelude.{◌≡◌, ◌++◌, ◌∷◌, [], length, slice_get, All, Bool, Some, None, IfOk, IfErr, IsOk};
 ghost use Rattle.std.specs.Fn.{CalledAt, FnOnceTakesAt, FnOnceReturnsAt};
 ghost use Rattle.dary_heap.specs.Asking.{IsCallableOn, items_in, predicates_in};
@@ -137,7 +136,6 @@ pub enum Reply<T: Ord, const D: usize> {
 /// use dary_heap::TernaryHeap;
 /// use dary_heap::run::{Act, Command, End, run};
 /// use std::alloc::AllocError;
-///
 /// let mut heap = TernaryHeap::new(alloc);
 /// let commands = vec![in alloc;
 ///     Command::Push(3),
@@ -211,13 +209,8 @@ pub fn run<T: Ord + Drop, const D: usize, P: FnMut(&T) -> bool>(
 ///
 /// ```
 /// use dary_heap::run::two_arities;
-///
 /// two_arities::<i32, fn(&i32) -> bool>();
 /// ```
-///
-/// # Time
-///
-/// No comparison.
 pub fn two_arities<T: Ord, P: FnMut(&T) -> bool>()
     ensures { SameRepliesAtTwoArities T.cmp (CalledAt P.FnMut) }
 {}

@@ -41,7 +41,6 @@ pub struct Edge {
 /// ```
 /// use dary_heap::TernaryHeap;
 /// use dary_heap::shortest_path::State;
-///
 /// let state = |cost, position| State { cost, position };
 /// let mut heap = TernaryHeap::from(vec![in alloc; state(7, 1), state(2, 5)]?);
 /// assert_eq!(rt; heap.pop(), Some(state(2, 5)));
@@ -120,7 +119,6 @@ pub enum PathRefusal {
 ///
 /// ```
 /// use dary_heap::shortest_path::{Edge, shortest_path};
-///
 /// let from_0 = vec![in alloc; Edge { node: 1, cost: 7 }, Edge { node: 2, cost: 1 }]?;
 /// let from_2 = vec![in alloc; Edge { node: 1, cost: 3 }]?;
 /// let graph = vec![in alloc; from_0, Vec::new(alloc), from_2]?;

@@ -1,15 +1,16 @@
 //! The workloads of the bench, behind C functions. It has only what `bench/` calls. The crate `dary_heap_c`
 //! is for programs in C.
 //!
-//! Each function does one whole workload: it makes a heap of the items, works on it, and writes items to the
-//! front of `out`. So nothing but structs of numbers, pointers and lengths crosses, and no heap outlives a
-//! call. It returns how many items it wrote, and `u64::MAX` if it knows no such heap, if `out` is too short or
-//! if memory allocation fails. No clause says which items it writes: the bench compares them in each run.
+//! There is one function for each type of items, which is told by numbers which workload to do and over which
+//! heap. It does the whole of it: it makes a heap of the items, works on it, and writes items to the front of
+//! `out`. So nothing but numbers, structs of them, pointers and lengths crosses, and no heap outlives a call.
+//! It returns how many items it wrote, and `u64::MAX` if it knows no such workload or heap, if `out` is too
+//! short or if memory allocation fails. No clause says which items it writes: the bench compares them.
 //!
 //! - [`queue`] has the calls of a heap that the workloads make, and the heaps that have them.
 //! - [`work`] has the workloads, over any of these heaps.
-//! - [`numbers`] has them on `i64`, and by a heap that counts. [`structs`] has them on 16 and 64 bytes, and
-//!   [`strings`] on strings, of each of which a number is written.
+//! - [`items`] has the functions for numbers, by a heap that counts too, for items of 16 and 64 bytes and for
+//!   strings.
 //! - [`graph`] has the search for a cheapest walk, and how many comparisons it makes.
 #![tactic(auto)]
 
@@ -42,8 +43,6 @@ macro_rules! over {
 }
 
 mod graph;
-mod numbers;
+mod items;
 mod queue;
-mod strings;
-mod structs;
 mod work;

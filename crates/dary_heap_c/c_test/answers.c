@@ -26,8 +26,7 @@ static size_t arity;
 
 static int checks, wrong;
 
-static void check(bool right, enum function function, const char *kind, size_t len,
-                  const char *what) {
+static void check(bool right, enum function function, const char *kind, size_t len, const char *what) {
     checks++;
     if (right)
         return;
@@ -54,12 +53,9 @@ static void make_page(void) {
 /* Room for so many items. Beside it is room for a guard, or a page where a read or a write ends the program. */
 static void *array(enum place where, size_t len, size_t size) {
     switch (where) {
-    case BEFORE_A_PAGE:
-        return page + page_size - len * size;
-    case BEHIND_A_PAGE:
-        return page;
-    default:
-        return page + size;
+    case BEFORE_A_PAGE: return page + page_size - len * size;
+    case BEHIND_A_PAGE: return page;
+    default: return page + size;
     }
 }
 
@@ -80,12 +76,9 @@ static uint64_t drawn(uint64_t below) {
 /* A key. Every third array has few different ones, and every third has the ends of the range. */
 static int64_t drawn_key(size_t kind) {
     switch (kind % 3) {
-    case 0:
-        return (int64_t)drawn(5) - 2;
-    case 1:
-        return drawn(2) ? INT64_MIN + (int64_t)drawn(3) : INT64_MAX - (int64_t)drawn(3);
-    default:
-        return (int64_t)drawn(1000000) - 500000;
+    case 0: return (int64_t)drawn(5) - 2;
+    case 1: return drawn(2) ? INT64_MIN + (int64_t)drawn(3) : INT64_MAX - (int64_t)drawn(3);
+    default: return (int64_t)drawn(1000000) - 500000;
     }
 }
 
@@ -172,20 +165,6 @@ static struct dheap_sequenced sequenced_of(int64_t key, uint64_t value) {
 #define EARLIER(a, b) ((a).sequence < (b).sequence)
 #include "kind.h"
 
-/* The tests of each kind. */
-static const struct {
-    void (*test)(size_t len, enum place where);
-    void (*test_long)(void);
-} kinds[] = {
-    {test_i64, test_long_i64},
-    {test_u64, test_long_u64},
-    {test_double, test_long_double},
-    {test_entry, test_long_entry},
-    {test_sequenced, test_long_sequenced},
-};
-
-enum { KINDS = sizeof kinds / sizeof *kinds };
-
 /* Items with few different keys come out in the order of their keys, and equal ones in the order in which they came
  * in. */
 static void test_turns(void) {
@@ -206,38 +185,19 @@ static void test_turns(void) {
     }
 }
 
-/* The tests of an arity, on max-heaps and on min-heaps by turns. */
-static void test_all(void) {
-    for (size_t len = 0; len <= LONGEST; len++) {
-        for (enum place where = 0; where < PLACES; where++) {
-            for (size_t i = 0; i < 2 * KINDS; i++) {
-                is_max = i % 2 == 0;
-                kinds[i / 2].test(len, where);
-            }
-        }
-    }
-    is_max = true;
-    test_turns();
-    is_max = false;
-    test_turns();
-}
-
-static void test_all_long(void) {
-    for (size_t i = 0; i < 2 * KINDS; i++) {
-        is_max = i % 2 == 0;
-        kinds[i / 2].test_long();
-    }
-}
-
 int main(int words, char **word) {
-    make_page();
-    for (arity = 1; arity <= DARY_HEAP_ARITY_MAX; arity++)
-        test_all();
     const bool is_short = words > 1 && strcmp(word[1], "short") == 0;
-    const size_t arities[] = {2, 3, 4, 8};
-    for (size_t i = 0; !is_short && i < sizeof arities / sizeof *arities; i++) {
-        arity = arities[i];
-        test_all_long();
+    make_page();
+    for (size_t i = 0; i < 2 * DARY_HEAP_ARITY_MAX; i++) {
+        arity = 1 + i / 2;
+        is_max = i % 2 == 0;
+        const bool has_long = !is_short && (arity == 2 || arity == 3 || arity == 4 || arity == 8);
+        test_i64(has_long);
+        test_u64(has_long);
+        test_double(has_long);
+        test_entry(has_long);
+        test_sequenced(has_long);
+        test_turns();
     }
     printf("dary_heap_c: %d of %d answers are wrong%s\n", wrong, checks, is_short ? ", without long arrays" : "");
     return wrong != 0;

@@ -54,7 +54,7 @@ library=$room/installed/lib/libdary_heap_c.a
 header=$room/installed/include/dary_heap_c.h
 
 # The exported symbols are the functions of the header, and nothing from outside is called.
-grep -oE '\bdheap_(max|min)_\w+\(' "$header" | tr -d '(' | sort > "$room/declared"
+"${compiler[@]}" -E -x c "$header" | grep -oE '\bdheap_(max|min)_\w+\(' | tr -d '(' | sort > "$room/declared"
 for it in "$library" "$room/other.a"; do
     nm -g --defined-only "$it" | awk 'NF == 3 { print $3 }' | sort > "$room/exported"
     diff -- "$room/declared" "$room/exported" || fail "the symbols of ${it##*/} aren't the functions of the header"
@@ -102,12 +102,7 @@ shows() {
     [[ "$("$room/program")" == "$wanted" ]] || fail "$source prints something else"
 }
 
-due='30: timer 1, due at 20
-60: timer 0, due at 50
-60: timer 2, due at 55
-60: timer 5, due at 60
-90: timer 4, due at 70
-120: timer 4, due at 110'
+due=$(sed -n '/^    30: timer 1/,/^$/s/^    //p' ../README.md)
 turns=$'at 5\nfirst at 20\nsecond at 20\nthird at 20'
 
 # Each program of the examples and of README.md, compiled with these words.
@@ -134,9 +129,12 @@ compile answers answers.c
 "$room/other" | sed 's/$/, as the other backend builds the library/' || fail 'the other backend builds it wrongly'
 say "by that backend a call takes at most ${stack#*=} bytes of stack"
 
+# A compiler that can warn of an ignored result must.
 if "${compiler[@]}" -dM -E -x c /dev/null | grep -q __GNUC__; then
-    ! "${compiler[@]}" -std=c11 -Werror -c -o "$room/ignored.o" must_use.c "${flags[@]}" > "$room/printed" 2>&1 ||
+    printf '#include <dary_heap_c.h>\nint main(void) { dheap_max_push_i64(&(int64_t){0}, 1, 4); }\n' > "$room/ignored.c"
+    ! "${compiler[@]}" -std=c11 -Werror -I "$room/installed/include" -c -o "$room/ignored.o" "$room/ignored.c" 2> "$room/printed" ||
         fail 'a program that ignores a result is compiled without a warning'
+    grep -q unused-result "$room/printed" || fail 'an ignored result is refused for another reason'
 fi
 
 if $has_cpp; then

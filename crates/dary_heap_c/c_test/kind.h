@@ -11,37 +11,31 @@
 #define CHECK(right, function, what) check(right, function, TEXT(KIND), len, what)
 #define IS_SAME(a, b, len) (memcmp(a, b, (len) * sizeof(ITEM)) == 0)
 
-#define NAMED(order, function) PASTE(dheap_##order##_##function##_, KIND)
-#define FUNCTIONS(order)                                                                        \
-    {{[MAKE] = NAMED(order, make), [SORT] = NAMED(order, sort), [PUSH] = NAMED(order, push),    \
-      [POP] = NAMED(order, pop), [REPLACE] = NAMED(order, replace),                             \
-      [SORT_HEAP] = NAMED(order, sort_heap)},                                                   \
-     {NAMED(order, fix), NAMED(order, remove), NAMED(order, mend)},                             \
-     NAMED(order, is_heap)}
+/* Calls a function of this kind in the order that is set. */
+#define CALL(function, ...)                                                                                            \
+    (is_max ? PASTE(dheap_max_##function##_, KIND)(__VA_ARGS__) : PASTE(dheap_min_##function##_, KIND)(__VA_ARGS__))
 
-/* The functions of this kind, for min-heaps and for max-heaps. */
-static const struct {
-    bool (*calls[FIX])(ITEM *, size_t, size_t);
-    bool (*calls_at[IS_HEAP - FIX])(ITEM *, size_t, size_t, size_t);
-    bool (*is_heap)(const ITEM *, size_t, size_t, bool *);
-} LOCAL(functions)[] = {FUNCTIONS(min), FUNCTIONS(max)};
-
-/* Calls a function. The place is for those that have one. */
+/* Calls a function that writes no answer. The place is for those that have one. */
 static bool LOCAL(call)(enum function function, ITEM *items, size_t len, size_t place) {
-    if (function < FIX)
-        return LOCAL(functions)[is_max].calls[function](items, len, arity);
-    return LOCAL(functions)[is_max].calls_at[function - FIX](items, len, arity, place);
-}
-
-static bool LOCAL(tell)(const ITEM *items, size_t len, bool *answer) {
-    return LOCAL(functions)[is_max].is_heap(items, len, arity, answer);
+    switch (function) {
+    case MAKE: return CALL(make, items, len, arity);
+    case SORT: return CALL(sort, items, len, arity);
+    case PUSH: return CALL(push, items, len, arity);
+    case POP: return CALL(pop, items, len, arity);
+    case REPLACE: return CALL(replace, items, len, arity);
+    case SORT_HEAP: return CALL(sort_heap, items, len, arity);
+    case FIX: return CALL(fix, items, len, arity, place);
+    case REMOVE: return CALL(remove, items, len, arity, place);
+    case MEND: return CALL(mend, items, len, arity, place);
+    default: abort();
+    }
 }
 
 /* What the library says, whatever stood where it writes its answer. */
 static bool LOCAL(told)(const ITEM *items, size_t len) {
     bool answer = false, again = true;
-    CHECK(LOCAL(tell)(items, len, &answer), IS_HEAP, "it returns false");
-    CHECK(LOCAL(tell)(items, len, &again), IS_HEAP, "it returns false");
+    CHECK(CALL(is_heap, items, len, arity, &answer), IS_HEAP, "it returns false");
+    CHECK(CALL(is_heap, items, len, arity, &again), IS_HEAP, "it returns false");
     CHECK(answer == again, IS_HEAP, "the answer isn't written");
     return answer;
 }
@@ -76,8 +70,7 @@ static bool LOCAL(is_sorted)(const ITEM *items, size_t len) {
 }
 
 /* Calls a function, by which none of `all` items is lost or doubled. */
-static void LOCAL(moves)(enum function function, ITEM *items, size_t len, size_t place,
-                         size_t all) {
+static void LOCAL(moves)(enum function function, ITEM *items, size_t len, size_t place, size_t all) {
     const uint64_t sum = sum_of(items, all, sizeof *items);
     CHECK(LOCAL(call)(function, items, len, place), function, "it returns false");
     CHECK(sum_of(items, all, sizeof *items) == sum, function, "an item is lost or doubled");
@@ -96,8 +89,7 @@ static void LOCAL(keeps_heap)(enum function function, ITEM *items, size_t len, s
 }
 
 /* Calls a function by which the item at a place goes behind the rest. */
-static void LOCAL(takes_out)(enum function function, ITEM *items, size_t len, size_t place,
-                             size_t all) {
+static void LOCAL(takes_out)(enum function function, ITEM *items, size_t len, size_t place, size_t all) {
     const ITEM item = items[place];
     LOCAL(moves)(function, items, len, place, all);
     CHECK(IS_SAME(&items[len - 1], &item, 1), function, "the item isn't behind the rest");
@@ -184,8 +176,8 @@ static void LOCAL(test_out_of_range)(ITEM *items, size_t len) {
         for (enum function function = MAKE; function < IS_HEAP; function++)
             CHECK(!LOCAL(call)(function, items, len, 0), function, "it knows this arity");
         bool no = false, yes = true;
-        CHECK(!LOCAL(tell)(items, len, &no) && !no, IS_HEAP, "it knows this arity");
-        CHECK(!LOCAL(tell)(items, len, &yes) && yes, IS_HEAP, "it knows this arity");
+        CHECK(!CALL(is_heap, items, len, arity, &no) && !no, IS_HEAP, "it knows this arity");
+        CHECK(!CALL(is_heap, items, len, arity, &yes) && yes, IS_HEAP, "it knows this arity");
     }
     arity = known;
     for (enum function function = FIX; function < IS_HEAP; function++) {
@@ -197,7 +189,7 @@ static void LOCAL(test_out_of_range)(ITEM *items, size_t len) {
 }
 
 /* All of these, on items between two others, or at a page that can't be read. */
-static void LOCAL(test)(size_t len, enum place where) {
+static void LOCAL(test_at)(size_t len, enum place where) {
     ITEM given[LONGEST + 1], heap[LONGEST + 1];
     const ITEM guard = ITEM_OF(42, 4242);
     ITEM *const items = array(where, len, sizeof guard);
@@ -251,6 +243,14 @@ static void LOCAL(test_long)(void) {
     CHECK(LOCAL(told)(items, len), IS_HEAP, "it doesn't know a heap");
     LOCAL(sorts)(SORT_HEAP, items, len);
     free(items);
+}
+
+static void LOCAL(test)(bool has_long) {
+    for (size_t len = 0; len <= LONGEST; len++)
+        for (enum place where = 0; where < PLACES; where++)
+            LOCAL(test_at)(len, where);
+    if (has_long)
+        LOCAL(test_long)();
 }
 
 #undef KIND

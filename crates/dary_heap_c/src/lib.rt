@@ -7,7 +7,8 @@
 //! - [`in_place`] has the algorithms, for any items that are copied and any judge, at an arity that is a number.
 //! - [`judges`] has the judges.
 //!
-//! `dary_heap_c.h` says the same to a reader of C, and README.md how to begin.
+//! `dary_heap_c.h` documents each function, and its contract names what of `specs/InPlace.antt` it does in which
+//! order. README.md says how to begin.
 #![tactic(auto)]
 
 mod double;

@@ -1,10 +1,7 @@
 -- Comparisons of pushes and pops in a row.
-use Rattle.std.proofs.Common.{◌≡◌, ℕ, ◌+◌, ◌-◌, ◌*◌, ◌<◌, ◌≤◌, inl, inr, arith, ap}
-use Rattle.std.proofs.lemmas.Bool.{cases_lt}
+use Rattle.dary_heap_pieces.proofs.Common.{◌≡◌, ℕ, ◌+◌, ◌-◌, ◌*◌, ◌<◌, ◌≤◌, inl, inr, arith, ap, cases_lt, RisesWithin, push_bound, pop_bound, merging_bound}
 use Rattle.std.proofs.Math.Nat.{mul-le-mul_left, mul-le-mul_right}
-use Rattle.dary_heap.specs.Bounds.{RisesWithin, push_bound, pop_bound}
 use Rattle.dary_heap.proofs.Depth.{depth-later, times_depth-later}
-use Rattle.dary_heap_pieces.specs.Links.{merging_bound}
 
 -- comparisons made one after another
 then_within : {old mid new a b bound : ℕ} → RisesWithin old mid a → RisesWithin mid new b → a + b ≤ bound → RisesWithin old new bound
@@ -53,9 +50,6 @@ offered_counted k k' n m next few before push =
     let more : (k + 1) * push_bound 8 n ≡ k' * push_bound 8 n = ap (λ (j : ℕ). j * push_bound 8 n) next in
     then_within before push (omega (arith, push_more m n few, more))
 
-pub all_offered_counted : {start now : ℕ} (k K n : ℕ) → k ≤ K → RisesWithin start now (k * push_bound 8 n) → RisesWithin start now (K * push_bound 8 n)
-all_offered_counted k K n less h = wider (mul-le-mul_right (push_bound 8 n) less) h
-
 total : {start mid new : ℕ} (k m P Q p q r : ℕ) → m ≤ k → p ≤ P → q ≤ Q → r ≤ Q → RisesWithin start mid (k * r) → RisesWithin mid new ((m + 2 * k) * p + 2 * k * q) → RisesWithin start new (3 * k * (Q + P))
 total k m P Q p q r few small less least first rest =
     let one : k * r ≤ k * Q = mul-le-mul_left k least in
@@ -67,10 +61,3 @@ total k m P Q p q r few small less least first rest =
 -- the pairs pushed, and then merged
 pub total_counted : {start mid new : ℕ} (n m : ℕ) → m ≤ n - 1 → RisesWithin start mid ((n - 1) * push_bound 8 n) → RisesWithin mid new (merging_bound m n) → RisesWithin start new (3 * (n - 1) * (push_bound 8 (2 * n) + pop_bound 8 (2 * n)))
 total_counted n m few first rest = total (n - 1) m (pop_bound 8 (2 * n)) (push_bound 8 (2 * n)) (pop_bound 8 (m + n)) (push_bound 8 (m + n)) (push_bound 8 n) few (pop_more (m + n) (2 * n) (omega (arith, few))) (push_more (m + n) (2 * n) (omega (arith, few))) (push_more n (2 * n) (omega arith)) first rest
-
--- where a loop from 1 on ended
-pub last_within : (place len : ℕ) → (1 ≤ len → place ≤ len) → place ≤ len + 1 → place - 1 ≤ len - 1
-last_within place len end within = elim (cases_lt 0 len) [
-  | inl some ↦ (let here = end some in omega (arith, here))
-  | inr none ↦ omega (arith, none, within)
-]

@@ -1,11 +1,6 @@
 -- Links in which a pair is merged: they are linked, and the word has the new piece in the place of the two.
-use Rattle.std.proofs.Common.{◌≡◌, ◌≢◌, ℕ, zero, suc, ◌<◌, List, [], ◌∷◌, ◌++◌, length, take, drop, slice_set, Some, None, is_some, inl, inr, refl, sym, ap, ◌∙◌, subst, arith, get_or, length-set, get_or-set_same, get_or-set_other}
-use Rattle.std.proofs.lemmas.Bool.{cases_lt, cases_eq}
+use Rattle.dary_heap_pieces.proofs.Common.{◌≡◌, ◌≢◌, ℕ, zero, suc, ◌<◌, List, [], ◌∷◌, ◌++◌, length, take, drop, slice_set, Some, None, is_some, inl, inr, refl, sym, ap, ◌∙◌, subst, arith, get_or, length-set, get_or-set_same, get_or-set_other, cases_lt, cases_eq, map-set_same, drop-set-lt, take-set-le, gone, link, word_of, IsLive, IsLinked, left_joined, right_gone, joined, Link}
 use Rattle.std.proofs.Math.ListN.{get_or-map}
-use Rattle.std.proofs.Math.Seq.{map-set_same}
-use Rattle.std.proofs.lemmas.List.{drop-set-lt, take-set-le}
-use Rattle.dary_heap_pieces.specs.Links.{gone, link, word_of, IsLive, IsLinked, left_joined, right_gone, joined}
-use Rattle.dary_heap_pieces.specs.declared.links.Link.{Link}
 use Rattle.dary_heap_pieces.proofs.Words.{piece_at, next_at, word_of-split, word_of-between, word_of-set_same}
 
 field-set_same : {B : Type 0} (f : Link → B) (links : List Link) (i : ℕ) (v : Link) → f v ≡ f (link links i) → (j : ℕ) → f (link (slice_set links i v) j) ≡ f (link links j)
@@ -101,24 +96,20 @@ module _ (links : List Link) (linked : IsLinked links) (p v : ℕ) (live : IsLiv
   pub new_long : length new ≡ length links
   new_long = length-set two a _ ∙ length-set one r _ ∙ length-set links p _
 
-  -- what is left now is the new piece or was left before
-  pub was_live : (q : ℕ) → IsLive new q → q ≢ r × IsLive links q
-  was_live q h = (
-    λ e. not_live new q (ap (λ (i : ℕ). (link new i).piece) e ∙ piece_right) h,
-    elim (cases_eq q p) [
-      | inl e ↦ subst (IsLive links) (sym e) live
-      | inr e ↦ (elim (cases_eq q r) [
-        | inl f ↦ subst (IsLive links) (sym f) live_r
-        | inr f ↦ ap is_some (sym (piece_other q e f)) ∙ h
-      ])
-    ],
-  )
+  -- but for the right piece, what was left is left
+  same_live : (q : ℕ) → q ≢ r → is_some (link new q).piece ≡ is_some (link links q).piece
+  same_live q f = elim (cases_eq q p) [
+    | inl e ↦ subst (λ (i : ℕ). is_some (link new i).piece ≡ is_some (link links i).piece) (sym e) (ap is_some piece_here ∙ sym live)
+    | inr e ↦ ap is_some (piece_other q e f)
+  ]
 
   still_live : (q : ℕ) → q ≢ r → IsLive links q → IsLive new q
-  still_live q f h = elim (cases_eq q p) [
-    | inl e ↦ subst (IsLive new) (sym e) (ap is_some piece_here)
-    | inr e ↦ ap is_some (piece_other q e f) ∙ h
-  ]
+  still_live q f h = same_live q f ∙ h
+
+  pub was_live : (q : ℕ) → IsLive new q → q ≢ r × IsLive links q
+  was_live q h =
+      let other : q ≢ r = λ e. not_live new q (ap (λ (i : ℕ). (link new i).piece) e ∙ piece_right) h in
+      (other, sym (same_live q other) ∙ h)
 
   -- nothing else that is left was linked with the right piece
   not_right : (q : ℕ) → IsLive links q → q ≢ p → (link links q).next ≢ r
@@ -130,10 +121,7 @@ module _ (links : List Link) (linked : IsLinked links) (p v : ℕ) (live : IsLiv
   gone_still : (q : ℕ) → (link links q).piece ≡ None → (link new q).piece ≡ None
   gone_still q h = elim (cases_eq q r) [
     | inl f ↦ ap (λ (i : ℕ). (link new i).piece) f ∙ piece_right
-    | inr f ↦ (elim (cases_eq q p) [
-      | inl e ↦ not_live links p (subst (λ (i : ℕ). (link links i).piece ≡ None) e h) live
-      | inr e ↦ piece_other q e f ∙ h
-    ])
+    | inr f ↦ piece_other q (λ e. not_live links p (subst (λ (i : ℕ). (link links i).piece ≡ None) e h) live) f ∙ h
   ]
 
   new_between : (q b : ℕ) → IsLive new q → q < b → b < (link new q).next → (link new b).piece ≡ None
@@ -208,12 +196,6 @@ module _ (links : List Link) (linked : IsLinked links) (p v : ℕ) (live : IsLiv
   }
 
   -- the word before and after
-  gap_none : (q : ℕ) → p < q → q < suc r → (link new q).piece ≡ None
-  gap_none q low high = elim (cases_eq q r) [
-    | inl f ↦ ap (λ (i : ℕ). (link new i).piece) f ∙ piece_right
-    | inr f ↦ gone_still q (linked.none_between p q live low (omega (arith, high, f)))
-  ]
-
   back_word : word_of (drop (suc r) new) ≡ word_of (drop (suc r) links)
   back_word = drop-set_same two (suc r) a _ refl ∙ ap word_of (drop-set-lt (suc r) one r _ (omega arith)) ∙ ap word_of (drop-set-lt (suc r) links p _ (omega (arith, up)))
 
@@ -221,5 +203,5 @@ module _ (links : List Link) (linked : IsLinked links) (p v : ℕ) (live : IsLiv
   word-joined =
       let split = word_of-split new p v piece_here in
       let front : take p new ≡ take p links = take-set-le p two a _ (omega (arith, up, up_r)) ∙ take-set-le p one r _ (omega (arith, up)) ∙ take-set-le p links p _ (omega arith) in
-      let gap : word_of (drop (suc p) new) ≡ word_of (drop (suc r) new) = word_of-between new (suc p) (suc r) (omega (arith, up)) (λ q low high. gap_none q (omega (arith, low)) (omega (arith, high))) in
+      let gap : word_of (drop (suc p) new) ≡ word_of (drop (suc r) new) = word_of-between new (suc p) (suc r) (omega (arith, up)) (λ q low high. new_between p q (ap is_some piece_here) (omega (arith, low)) (omega (arith, high, next_here, up_r))) in
       split ∙ ap (λ (xs : List Link). word_of xs ++ v ∷ word_of (drop (suc p) new)) front ∙ ap (λ (ys : List ℕ). word_of (take p links) ++ v ∷ ys) (gap ∙ back_word)

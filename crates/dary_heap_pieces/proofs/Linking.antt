@@ -1,11 +1,5 @@
 -- Links of a whole word.
-use Rattle.std.proofs.Common.{◌≡◌, ℕ, ◌+◌, ◌%◌, ◌^◌, ◌<◌, true, List, [], ◌∷◌, ◌++◌, length, Some, is_some, inl, inr, refl, sym, ap, ◌∙◌, subst, arith}
-use Rattle.std.proofs.Math.Seq.{get_or-append_seam}
-use Rattle.std.proofs.lemmas.Bool.{cases_lt}
-use Rattle.std.proofs.lemmas.List.{get_or_append_left, length_push}
-use Rattle.std.proofs.lemmas.List.Elements.{filter_map-append}
-use Rattle.dary_heap_pieces.specs.Links.{gone, link, word_of, IsLive}
-use Rattle.dary_heap_pieces.specs.declared.links.Link.{Link}
+use Rattle.dary_heap_pieces.proofs.Common.{◌≡◌, ℕ, ◌+◌, ◌%◌, ◌^◌, ◌<◌, true, List, [], ◌∷◌, ◌++◌, length, Some, is_some, inl, inr, refl, sym, ap, ◌∙◌, subst, arith, get_or-append_seam, cases_lt, get_or_append_left, length_push, filter_map-append, gone, link, word_of, IsLive, Link}
 
 -- the links hold these pieces, each in its place
 pub record IsWhole (links : List Link) (pieces : List ℕ) : Type 0 where

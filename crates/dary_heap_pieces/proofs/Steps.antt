@@ -1,20 +1,11 @@
 -- A candidate that is first: where its pair still has its rank, merging it is a step, and else no pair needs it.
-use Rattle.std.proofs.Common.{◌≡◌, ◌≢◌, ◌⊎◌, ℕ, zero, suc, ◌+◌, ◌<◌, ◌≤◌, List, [], ◌∷◌, ◌++◌, length, take, drop, slice_get, Contains, Option, Some, None, is_some, inl, inr, refl, sym, ap, ◌∙◌, subst, arith, length-append}
-use Rattle.std.proofs.Math.Seq.{take-append_seam, drop-append-add}
-use Rattle.std.proofs.lemmas.List.{drop_all}
-use Rattle.std.proofs.lemmas.Bool.{cases_lt, cases_eq}
+use Rattle.dary_heap_pieces.proofs.Common.{◌≡◌, ◌≢◌, ◌⊎◌, ℕ, zero, suc, ◌+◌, ◌<◌, ◌≤◌, List, [], ◌∷◌, ◌++◌, length, take, drop, slice_get, Contains, Option, Some, None, is_some, inl, inr, refl, sym, ap, ◌∙◌, subst, arith, length-append, take-append_seam, drop-append-add, drop_all, cases_lt, cases_eq, Contains-cases, came_later, nat_le_from_first, nat_le_from_cmp, IsPermutation-sym, Contains-permutation, link, word_of, IsLive, IsLinked, merge_of, standing, joined, candidate, IsOffered, IsFirst, IsMergeAt, IsStep, LeadsTo, IsMerged, Link, Merge}
 use Rattle.std.specs.Cmp.{nat_cmp_is}
 use Rattle.std.specs.Ordering.{nat_cmp, ordering_then}
 use Rattle.std.specs.declared.cmp.Ordering.{Ordering}
 use Rattle.std.specs.declared.cmp.Ordering.TheVariants.{Equal}
 use Rattle.std.specs.declared.cmp.Reverse.{Reverse}
 use Rattle.dary_heap.specs.Bag.{IsSameBag, IsGreatest}
-use Rattle.dary_heap.proofs.Callers.{Contains-cases, came_later, nat_le_from_first, nat_le_from_cmp}
-use Rattle.std.proofs.lemmas.List.Sorted.{IsPermutation-sym, Contains-permutation}
-use Rattle.dary_heap_pieces.specs.Links.{link, word_of, IsLive, IsLinked, merge_of, standing, joined, candidate, IsOffered, IsFirst}
-use Rattle.dary_heap_pieces.specs.Merging.{IsMergeAt, IsStep, LeadsTo, IsMerged}
-use Rattle.dary_heap_pieces.specs.declared.links.Link.{Link}
-use Rattle.dary_heap_pieces.specs.declared.table.Merge.{Merge}
 use Rattle.dary_heap_pieces.proofs.Words.{piece_at, next_at, position, position-later, stands_at, word_of-split, word_of-at, behind, behind_piece}
 use Rattle.dary_heap_pieces.proofs.Joining.{IsLinked-joined, word-joined, live_within, not_live, was_live, next_other, piece_other, piece_here}
 
@@ -244,15 +235,11 @@ module _ (table : ℕ → ℕ → Option Merge) (links : List Link) (linked : Is
 
 -- ---- steps in a row
 
-pub LeadsTo-more : (table : ℕ → ℕ → Option Merge) (steps : ℕ) (word mid last : List ℕ) → LeadsTo table steps word mid → IsStep table mid last → LeadsTo table (suc steps) word last
-LeadsTo-more table zero word mid last same step = (last, subst (λ (w : List ℕ). IsStep table w last) (sym same) step, refl)
-LeadsTo-more table (suc steps) word mid last leads step = (leads.0, leads.1, LeadsTo-more table steps leads.0 mid last leads.2 step)
-
-pub LeadsTo-then : (table : ℕ → ℕ → Option Merge) (steps more : ℕ) (word mid last : List ℕ) → LeadsTo table steps word mid → LeadsTo table more mid last → LeadsTo table (steps + more) word last
-LeadsTo-then table steps zero word mid last leads then' = subst (λ (n : ℕ). LeadsTo table n word last) (omega arith) (subst (LeadsTo table steps word) then' leads)
-LeadsTo-then table steps (suc more) word mid last leads then' =
-    subst (λ (n : ℕ). LeadsTo table n word last) (omega arith)
-    (LeadsTo-then table (suc steps) more word then'.0 last (LeadsTo-more table steps word mid then'.0 leads then'.1) then'.2)
+pub LeadsTo-then : (table : ℕ → ℕ → Option Merge) (steps more : ℕ) (word mid last : List ℕ) → LeadsTo table steps word mid → LeadsTo table more mid last → (all : ℕ) × LeadsTo table all word last
+LeadsTo-then table zero more word mid last same later = (more, subst (λ (w : List ℕ). LeadsTo table more w last) (sym same) later)
+LeadsTo-then table (suc steps) more word mid last leads later =
+    let rest = LeadsTo-then table steps more leads.0 mid last leads.2 later in
+    (suc rest.0, (leads.0, leads.1, rest.1))
 
 -- ---- what a pop leaves
 

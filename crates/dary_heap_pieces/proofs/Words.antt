@@ -1,11 +1,6 @@
 -- The word of links: where its pieces stand.
-use Rattle.std.proofs.Common.{◌≡◌, ℕ, zero, suc, ◌+◌, ◌-◌, ◌<◌, ◌≤◌, List, [], ◌∷◌, ◌++◌, length, take, drop, slice_get, slice_set, Option, Some, None, refl, sym, ap, ◌∙◌, arith, length-append}
-use Rattle.std.proofs.Math.Seq.{take-add}
-use Rattle.std.proofs.lemmas.List.{drop-drop, get_or-drop, take-append-drop, take_more}
-use Rattle.std.proofs.lemmas.List.Elements.{filter_map-append}
+use Rattle.dary_heap_pieces.proofs.Common.{◌≡◌, ℕ, zero, suc, ◌+◌, ◌-◌, ◌<◌, ◌≤◌, List, [], ◌∷◌, ◌++◌, length, take, drop, slice_get, slice_set, Option, Some, None, refl, sym, ap, ◌∙◌, arith, length-append, take-add, drop-drop, get_or-drop, take-append-drop, take_more, filter_map-append, gone, link, word_of, IsLive, IsLinked, Link}
 use Rattle.std.specs.List.{cons_option}
-use Rattle.dary_heap_pieces.specs.Links.{gone, link, word_of, IsLive, IsLinked}
-use Rattle.dary_heap_pieces.specs.declared.links.Link.{Link}
 
 abbrev pub piece_at : List Link → ℕ → Option ℕ
 piece_at links place = (link links place).piece
@@ -58,16 +53,14 @@ pub record StandsAt (links : List Link) (i x : ℕ) : Type 0 where
   pub piece : piece_at links place ≡ Some x
   pub before : position links place ≡ i
 
-later_none : (l : Link) (links : List Link) (i x : ℕ) → l.piece ≡ None → StandsAt links i x → StandsAt (l ∷ links) i x
-later_none l links i x none h = record { place = suc h.place; piece = h.piece; before = rw none h.before }
-
-later_some : (l : Link) (links : List Link) (i x y : ℕ) → l.piece ≡ Some y → StandsAt links i x → StandsAt (l ∷ links) (suc i) x
-later_some l links i x y some h = record { place = suc h.place; piece = h.piece; before = rw some (ap suc h.before) }
-
 stands_at_by : (l : Link) (links : List Link) (o : Option ℕ) (i x : ℕ) → l.piece ≡ o → slice_get (cons_option o (word_of links)) i ≡ Some x → ((j : ℕ) → slice_get (word_of links) j ≡ Some x → StandsAt links j x) → StandsAt (l ∷ links) i x
-stands_at_by l links None i x is at rest = later_none l links i x is (rest i at)
+stands_at_by l links None i x is at rest =
+    let later = rest i at in
+    record { place = suc later.place; piece = later.piece; before = rw is later.before }
 stands_at_by l links (Some y) zero x is at rest = let same : y ≡ x = cc in record { place = 0; piece = is ∙ ap (λ (z : ℕ). Some z) same; before = refl }
-stands_at_by l links (Some y) (suc i) x is at rest = later_some l links i x y is (rest i at)
+stands_at_by l links (Some y) (suc i) x is at rest =
+    let later = rest i at in
+    record { place = suc later.place; piece = later.piece; before = rw is (ap suc later.before) }
 
 pub stands_at : (links : List Link) (i x : ℕ) → slice_get (word_of links) i ≡ Some x → StandsAt links i x
 stands_at [] i x at = absurd (cc)

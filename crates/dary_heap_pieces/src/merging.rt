@@ -1,8 +1,5 @@
-//! The merging.
-//!
-//! Each pair that has a merge is a candidate: its rank, and the place of its left piece. The candidates stand in a
-//! heap, from which the one of the least rank comes first, and of equal ones the leftmost. A candidate whose pair has
-//! another rank by now is passed over.
+//! Merges the pieces of a word. Each pair that has a merge is a candidate in a heap: its rank, and the place of its left
+//! piece. One whose pair has another rank by now is passed over.
 ghost use Rattle.std.specs.Prelude.{◌≡◌, ◌≢◌, ◌+◌, ◌-◌, ◌*◌, ◌<◌, ◌≤◌, ℕ, [], ◌∷◌, ◌++◌, length, vec_len, vec_capacity, Some, Contains, List, IfOk, IsOk};
 ghost use Rattle.std.specs.declared.cmp.Reverse.{Reverse};
 ghost use Rattle.dary_heap.specs.Bounds.{RisesWithin, push_bound, pop_bound};
@@ -16,18 +13,15 @@ use dary_heap::OctonaryHeap;
 use std::alloc::{AllocError, Global};
 use std::cmp::Reverse;
 
-/// Candidates for a merge: the rank of a pair and the place where it stood. The one of the least rank comes out
-/// first, and of equal ones the leftmost.
+/// Candidates for a merge. The one of the least rank comes out first, and of equal ones the leftmost.
 type Candidates = OctonaryHeap<Reverse<(u32, usize)>>;
 
 /// Merges the pieces of a word, and returns what is left: again and again the leftmost adjacent pair of the least
-/// rank becomes one piece, until no adjacent pair has a merge.
+/// rank becomes one piece, until no adjacent pair has a merge. Several pairs may have one rank, and different pairs
+/// may merge to the same piece. Fails if memory allocation fails, which is before the first merge.
 ///
-/// Several pairs may have one rank, and different pairs may merge to the same piece.
-///
-/// # Errors
-///
-/// Returns `AllocError` if memory allocation fails. All memory is allocated before the first merge.
+/// For `n` pieces it makes at most `3 (n - 1)` pushes and as many pops of a heap of arity 8 with fewer than `2 n`
+/// candidates.
 ///
 /// # Examples
 ///
@@ -35,7 +29,6 @@ type Candidates = OctonaryHeap<Reverse<(u32, usize)>>;
 /// use dary_heap_pieces::merging::merge_pieces;
 /// use dary_heap_pieces::table::Merge;
 /// use std::collections::HashMap;
-///
 /// let mut merges = HashMap::new(alloc);
 /// merges.insert((1, 2), Merge { rank: 1, piece: 3 })?;
 /// merges.insert((2, 1), Merge { rank: 0, piece: 4 })?;
@@ -43,10 +36,6 @@ type Candidates = OctonaryHeap<Reverse<(u32, usize)>>;
 /// let merged = merge_pieces(alloc, [1, 2, 1, 2].as_slice(), &merges)?;
 /// assert_eq!(rt; merged.as_slice(), [5, 2].as_slice());
 /// ```
-///
-/// # Time
-///
-/// For `n` pieces at most `3 (n - 1)` pushes and as many pops of a heap of arity 8 with fewer than `2 n` candidates.
 pub fn merge_pieces(alloc: Global, pieces: &[u32], merges: &Merges) -> Result<Vec<u32>, AllocError>
     ensures merged { IfOk result
         (λ merged. IsMerged (table_of merges.now) pieces.now merged.items) }
@@ -75,9 +64,7 @@ fn put_word(links: &[Link], merged: &mut Vec<u32>)
     }
 }
 
-/// Merges the pieces of a word by way of an empty heap.
-///
-/// Each pair is pushed, and two for each merge, and as many candidates are popped.
+/// Merges the pieces of a word by way of an empty heap. Each pair is pushed, and two for each merge.
 fn merge_links(merges: &Merges, links: &mut [Link], candidates: &mut Candidates)
     requires linked { IsLinked links.old }
     requires whole { length (word_of links.old) ≡ length links.old }

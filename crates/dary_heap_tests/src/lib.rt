@@ -1,6 +1,5 @@
 //! Callers that are proved, since their proofs show that the contracts of the priority queue serve a caller:
-//! calls of functions that have a precondition, at concrete types (`preconditions`, `uses`), and a judge of the
-//! caller's own (`judges`).
+//! calls of functions that have a precondition, at concrete types, and a judge and a handler of the caller's own.
 //!
 //! All other tests are run and not proved, and stand in the folder `trials`: of them a proof says only that
 //! they are safe.
@@ -10,8 +9,17 @@
 #![tactic(auto)]
 
 #[cfg(test)]
-mod judges;
-#[cfg(test)]
 mod preconditions;
 #[cfg(test)]
 mod uses;
+
+use std::process::Abort;
+use std::test::Fail;
+
+/// The handle of a test, which may stop it and allocates.
+trait Host: Abort + AllocGlobal {}
+
+impl<A: Abort + AllocGlobal> Host for A {}
+
+/// How a test, or a part of it, ends.
+type Tested = Result<(), Fail>;

@@ -1,29 +1,28 @@
-//! Calls of public functions that have a precondition, at concrete types. That of `shortest_path` is in
-//! `roads` of `dary_heap_uses`.
+//! Calls of public functions that have a precondition, at concrete types, and a judge of the caller's own. The
+//! call of `shortest_path` is in `roads` of `dary_heap_uses`.
+ghost use Rattle.std.specs.Cmp.{back_total, int_cmp_total};
+ghost use Rattle.std.specs.Ordering.{int_cmp};
+
+use crate::{Host, Tested};
 use dary_heap::run::{Command, Reply, run};
-use dary_heap::sift::{Tally, fix_with, mend_with, remove_with, replace_first_with};
+use dary_heap::sift::{
+    Judge, Tally, build_with, fix_with, mend_with, pop_with, push_with, remove_with,
+    replace_first_with,
+};
 use dary_heap::{BinaryHeap, OctonaryHeap, TernaryHeap};
 use dary_heap_uses::greatest::greatest;
-use std::alloc::Global;
+use std::alloc::AllocError;
 use std::cmp::Reverse;
-use std::process::Abort;
-use std::test::Fail;
 
-// What `into_vec` gives is in heap order at the same arity, as `from_raw_vec` needs it.
+// What `into_vec` gives is in heap order at the same arity, as `from_raw_vec` needs it, and the iterators end.
 #[test]
-fn a_heap_is_its_vector_and_back(rt: HostRuntime) -> Result<(), Fail> {
+fn a_heap_comes_of_its_vector_and_of_an_iterator(rt: HostRuntime) -> Tested {
     let items = BinaryHeap::from([1, 2, 3].to_vec(rt.alloc())?).into_vec();
     assert_eq!(rt; items.as_slice(), [3, 2, 1].as_slice());
     let mut heap = BinaryHeap::from_raw_vec(items);
     for answer in [Some(3), Some(2), Some(1), None] {
         assert_eq!(rt; heap.pop(), answer);
     }
-    Ok(())
-}
-
-// The iterator ends.
-#[test]
-fn a_heap_is_collected_from_an_iterator(rt: HostRuntime) -> Result<(), Fail> {
     let heap: BinaryHeap<i32> = (1..4).collect(rt.alloc())?;
     assert_eq!(rt; heap.as_slice(), [3, 2, 1].as_slice());
     let heap: BinaryHeap<i32> = (0..0).collect(rt.alloc())?;
@@ -33,13 +32,21 @@ fn a_heap_is_collected_from_an_iterator(rt: HostRuntime) -> Result<(), Fail> {
 
 // A clone of a number is the same number.
 #[test]
-fn a_clone_is_a_heap_of_its_own(rt: HostRuntime) -> Result<(), Fail> {
+fn a_clone_is_a_heap_or_an_iterator_of_its_own(rt: HostRuntime) -> Tested {
     let heap = BinaryHeap::from([1, 2, 3, 4, 5].to_vec(rt.alloc())?);
     let mut copy = heap.clone()?;
     assert_eq!(rt; copy.as_slice(), [5, 4, 3, 1, 2].as_slice());
     assert_eq!(rt; copy.pop(), Some(5));
     assert_eq!(rt; heap.as_slice(), [5, 4, 3, 1, 2].as_slice());
     assert!(rt; BinaryHeap::<i32>::new(rt.alloc()).clone()?.is_empty());
+    let heap = BinaryHeap::from([1, 2, 3].to_vec(rt.alloc())?);
+    let mut sorted = heap.clone()?.into_iter_sorted();
+    let mut copy = sorted.clone()?;
+    assert_eq!(rt; (sorted.next(), copy.next()), (Some(3), Some(3)));
+    let mut items = heap.into_iter();
+    assert_eq!(rt; items.next(), Some(3));
+    let mut copy = items.clone()?;
+    assert_eq!(rt; (items.next(), copy.next()), (Some(2), Some(2)));
     Ok(())
 }
 
@@ -49,7 +56,7 @@ fn is_even(item: &i32) -> bool {
 
 // A predicate without state, that may be called on any item.
 #[test]
-fn a_pop_comes_where_the_predicate_answers_yes(rt: HostRuntime) -> Result<(), Fail> {
+fn a_pop_comes_where_the_predicate_answers_yes(rt: HostRuntime) -> Tested {
     let mut heap = BinaryHeap::from([1, 2].to_vec(rt.alloc())?);
     assert_eq!(rt; heap.pop_if(is_even), Some(2));
     assert_eq!(rt; heap.as_slice(), [1].as_slice());
@@ -61,7 +68,7 @@ fn a_pop_comes_where_the_predicate_answers_yes(rt: HostRuntime) -> Result<(), Fa
 // A predicate that changes at each call, and may be called on any item after any calls.
 #[test]
 #[tactic(auto, using(dary_heap::proofs::Callable::takes_in_turn))]
-fn a_predicate_is_asked_about_each_item_in_order(rt: HostRuntime) -> Result<(), Fail> {
+fn a_predicate_is_asked_about_each_item_in_order(rt: HostRuntime) -> Tested {
     let mut heap = OctonaryHeap::from([-10, -5, 1, 2, 4, 13].to_vec(rt.alloc())?);
     assert_eq!(rt; heap.as_slice(), [13, -5, 1, 2, 4, -10].as_slice());
     let mut asked = Vec::new(rt.alloc());
@@ -76,37 +83,31 @@ fn a_predicate_is_asked_about_each_item_in_order(rt: HostRuntime) -> Result<(), 
     Ok(())
 }
 
-// The iterator of an array may be called, and ends.
+// The iterators of an array may be called, and end.
 #[test]
-fn items_come_in_by_value(rt: HostRuntime) -> Result<(), Fail> {
+fn items_come_in_by_value_and_by_reference(rt: HostRuntime) -> Tested {
     let mut heap = BinaryHeap::from([3, 1, 2].to_vec(rt.alloc())?);
     heap.extend([9, 8])?;
     assert_eq!(rt; heap.as_slice(), [9, 8, 2, 1, 3].as_slice());
+    heap = BinaryHeap::from([3, 1, 2].to_vec(rt.alloc())?);
+    heap.extend([9, 8].iter())?;
+    assert_eq!(rt; heap.as_slice(), [9, 8, 2, 1, 3].as_slice());
     // It is built whole.
-    let mut heap = BinaryHeap::from([2].to_vec(rt.alloc())?);
+    heap = BinaryHeap::from([2].to_vec(rt.alloc())?);
     heap.extend([5, 9, 7])?;
     assert_eq!(rt; heap.as_slice(), [9, 7, 2, 5].as_slice());
     Ok(())
 }
 
-#[test]
-fn items_come_in_by_reference(rt: HostRuntime) -> Result<(), Fail> {
-    let mut heap = BinaryHeap::from([3, 1, 2].to_vec(rt.alloc())?);
-    heap.extend([9, 8].iter())?;
-    assert_eq!(rt; heap.as_slice(), [9, 8, 2, 1, 3].as_slice());
-    Ok(())
-}
-
 /// Mends a slice from a start, which is tested first, and compares it afterwards and what that made.
 fn mend<const D: usize>(
-    rt: &impl Abort,
-    alloc: Global,
+    rt: &impl Host,
     before: &[i32],
     start: usize,
     after: &[i32],
     made: u64,
-) -> Result<(), Fail> {
-    let mut items = before.to_vec(alloc)?;
+) -> Tested {
+    let mut items = before.to_vec(rt.alloc())?;
     let mut judge = Tally::new();
     assert!(rt; start <= items.len());
     mend_with::<i32, Tally, D>(&mut items, start, &mut judge);
@@ -116,21 +117,20 @@ fn mend<const D: usize>(
 }
 
 #[test]
-fn a_tail_is_taken_into_the_heap_order(rt: HostRuntime) -> Result<(), Fail> {
-    let alloc = rt.alloc();
+fn a_tail_is_taken_into_the_heap_order(rt: HostRuntime) -> Tested {
     // It is built whole. Sifting up would give `[9, 7, 5, 2]`.
-    mend::<2>(&rt, alloc, &[2, 5, 9, 7], 1, &[9, 7, 2, 5], 3)?;
-    mend::<2>(&rt, alloc, &[3, 1, 2, 9, 8], 3, &[9, 8, 2, 1, 3], 4)?;
-    mend::<2>(&rt, alloc, &[3, 1, 2], 3, &[3, 1, 2], 0)?;
-    mend::<8>(&rt, alloc, &[13, 1, 4], 1, &[13, 1, 4], 2)?;
+    mend::<2>(&rt, &[2, 5, 9, 7], 1, &[9, 7, 2, 5], 3)?;
+    mend::<2>(&rt, &[3, 1, 2, 9, 8], 3, &[9, 8, 2, 1, 3], 4)?;
+    mend::<2>(&rt, &[3, 1, 2], 3, &[3, 1, 2], 0)?;
+    mend::<8>(&rt, &[13, 1, 4], 1, &[13, 1, 4], 2)?;
     let (before, after) = ([3, 1, 2, 3, -10, 43, 5, -20], [43, 1, 2, 3, -10, 3, 5, -20]);
-    mend::<8>(&rt, alloc, &before, 5, &after, 3)
+    mend::<8>(&rt, &before, 5, &after, 3)
 }
 
 // Each predicate may be called on any item.
 #[test]
 #[tactic(auto, using(dary_heap::proofs::Callable::all_callable))]
-fn a_run_gives_a_reply_to_each_command(rt: HostRuntime) -> Result<(), Fail> {
+fn a_run_gives_a_reply_to_each_command(rt: HostRuntime) -> Tested {
     let mut heap = TernaryHeap::<i32>::new(rt.alloc());
     let at_least_5 = |item: &i32| *item >= 5;
     let commands = vec![in rt.alloc();
@@ -143,30 +143,18 @@ fn a_run_gives_a_reply_to_each_command(rt: HostRuntime) -> Result<(), Fail> {
         Command::Pop,
         Command::Ask(at_least_5),
     ]?;
-    let Ok(replies) = run(rt.alloc(), &mut heap, commands) else {
-        return Err(Fail::from("no room for the replies"));
-    };
-    assert!(rt;
-        matches!(
-            replies.as_slice(),
-            [
-                Reply::Pushed,
-                Reply::Pushed,
-                Reply::Asked(Some(false)),
-                Reply::Popped(Some(4)),
-                Reply::Len(1),
-                Reply::Popped(Some(4)),
-                Reply::Popped(None),
-                Reply::Asked(None),
-            ]
-        )
+    let replies = run(rt.alloc(), &mut heap, commands).map_err(|_| AllocError)?;
+    assert_eq!(rt;
+        format!(in rt.alloc(); "{replies:?}")?.as_str(),
+        "[Pushed, Pushed, Asked(Some(false)), Popped(Some(4)), Len(1), Popped(Some(4)), \
+            Popped(None), Asked(None)]"
     );
     Ok(())
 }
 
 // The slice has an item.
 #[test]
-fn the_first_item_is_replaced(rt: HostRuntime) -> Result<(), Fail> {
+fn the_first_item_is_replaced(rt: HostRuntime) -> Tested {
     let cases: [(i32, [i32; 5], u64); 3] = [
         (0, [4, 3, 0, 1, 2], 2),
         (9, [9, 3, 4, 1, 2], 2),
@@ -185,7 +173,7 @@ fn the_first_item_is_replaced(rt: HostRuntime) -> Result<(), Fail> {
 
 // The place is below the length.
 #[test]
-fn an_item_is_changed_and_moved_to_the_end(rt: HostRuntime) -> Result<(), Fail> {
+fn an_item_is_changed_and_moved_to_the_end(rt: HostRuntime) -> Tested {
     let mut items = [9, 5, 7, 1, 2];
     let mut judge = Tally::new();
     items[1] = 0;
@@ -198,29 +186,49 @@ fn an_item_is_changed_and_moved_to_the_end(rt: HostRuntime) -> Result<(), Fail> 
     Ok(())
 }
 
-// A clone of a number is the same number.
-#[test]
-fn a_clone_of_an_iterator_gives_the_same_items(rt: HostRuntime) -> Result<(), Fail> {
-    let heap = BinaryHeap::from([1, 2, 3].to_vec(rt.alloc())?);
-    let mut sorted = heap.clone()?.into_iter_sorted();
-    let mut copy = sorted.clone()?;
-    assert_eq!(rt; sorted.next(), Some(3));
-    assert_eq!(rt; copy.next(), Some(3));
-    let mut items = heap.into_iter();
-    assert_eq!(rt; items.next(), Some(3));
-    let mut copy = items.clone()?;
-    assert_eq!(rt; items.next(), Some(2));
-    assert_eq!(rt; copy.next(), Some(2));
-    Ok(())
-}
-
 // The iterator of a vector ends.
 #[test]
-fn the_two_greatest_of_a_stream_are_kept(rt: HostRuntime) -> Result<(), Fail> {
+fn the_two_greatest_of_a_stream_are_kept(rt: HostRuntime) -> Tested {
     let stream = [4, 9, 1, 7].to_vec(rt.alloc())?;
     let mut kept = greatest::<i32, Vec<i32>, 3>(rt.alloc(), stream, 2)?;
     for answer in [Some(Reverse(7)), Some(Reverse(9)), None] {
         assert!(rt; kept.pop() == answer);
     }
+    Ok(())
+}
+
+/// Judges numbers by their flipped order, so the least comes first.
+#[derive(Drop)]
+struct Flipped {
+    tally: Tally,
+}
+
+impl Judge<i32> for Flipped {
+    ghost order = { λ a b. int_cmp b a };
+
+    ghost count = { λ judge. judge.tally };
+
+    ghost total = { back_total int_cmp_total };
+
+    fn at_most(&mut self, a: &i32, b: &i32) -> bool {
+        self.tally.at_most(b, a)
+    }
+}
+
+#[test]
+fn a_flipped_judge_gives_the_least_first(rt: HostRuntime) -> Tested {
+    let mut items = [5, 1, 4, 2, 3].to_vec(rt.alloc())?;
+    let mut judge = Flipped {
+        tally: Tally::new(),
+    };
+    build_with::<_, _, 2>(&mut items, &mut judge);
+    assert_eq!(rt; items.as_slice(), [1, 2, 4, 5, 3].as_slice());
+    assert_eq!(rt; judge.tally.made(), 6);
+    assert_eq!(rt; pop_with::<_, _, 2>(&mut items, &mut judge), Some(1));
+    assert_eq!(rt; items.as_slice(), [2, 3, 4, 5].as_slice());
+    assert_eq!(rt; judge.tally.made(), 6 + 3);
+    push_with::<_, _, 2>(&mut items, 0, &mut judge)?;
+    assert_eq!(rt; items.as_slice(), [0, 2, 4, 5, 3].as_slice());
+    assert_eq!(rt; judge.tally.made(), 6 + 3 + 2);
     Ok(())
 }

@@ -1,15 +1,9 @@
 -- The first of the items that pops give.
-use Rattle.std.proofs.Common.{◌≡◌, ℕ, List, Result, Ok, Err, Vec, IfOk, length, min}
+use Rattle.dary_heap_uses.proofs.Common.{◌≡◌, ℕ, List, Result, Ok, Err, Vec, IfOk, length, min, Global, Ordering, Contents, IsPop, IsDescending, IsGivenDescending, take_pops, KeepsGreatest}
 use Rattle.std.proofs.lemmas.Iterator.{IsCollectResult}
 use Rattle.std.specs.Iterator.Adapters.{take_count, take_source, take_steps}
 use Rattle.std.specs.declared.alloc.AllocError.{AllocError}
-use Rattle.std.specs.declared.alloc.Global.{Global}
-use Rattle.std.specs.declared.cmp.Ordering.{Ordering}
 use Rattle.std.specs.declared.iter.Take.{Take}
-use Rattle.dary_heap.specs.Contents.{Contents}
-use Rattle.dary_heap.specs.Popping.{IsPop, IsDescending, IsGivenDescending}
-use Rattle.dary_heap.proofs.Callers.{take_pops}
-use Rattle.dary_heap_uses.specs.Keeping.{KeepsGreatest}
 
 module _ {T : Type 0} (cmp : T → T → Ordering) where
   ranked : (k : ℕ) (items : List T) (r : Result (Vec T Global) AllocError) → IfOk r (λ v. (left : List T) × IsGivenDescending cmp items v.items left × (length v.items ≡ min k (length items))) → IfOk r (λ v. KeepsGreatest cmp k items v.items) × IfOk r (λ v. IsDescending cmp v.items)

@@ -1,18 +1,6 @@
 -- What becomes of the k greatest once an item more came.
-use Rattle.std.proofs.Common.{◌≡◌, ◌≢◌, ℕ, ◌+◌, ◌*◌, ◌<◌, ◌≤◌, min, List, [], ◌∷◌, ◌++◌, length, sym, subst, arith, inl, inr, Some, slice_set, Contains, length-append}
-use Rattle.std.proofs.lemmas.List.{length-map}
-use Rattle.std.proofs.lemmas.List.Sorted.{IsPermutation-sym, IsPermutation-trans, IsPermutation-cons, IsPermutation-middle, IsPermutation-map, IsPermutation-append_left, IsPermutation-push_more, length_permutation}
-use Rattle.std.specs.Cmp.{IsTotalOrder}
-use Rattle.std.specs.declared.cmp.Ordering.{Ordering}
-use Rattle.std.specs.declared.cmp.Ordering.TheVariants.{Greater}
-use Rattle.std.specs.declared.cmp.Reverse.{Reverse}
-use Rattle.dary_heap.specs.Bag.{IsSameBag, IsGreatest}
-use Rattle.dary_heap.specs.Bounds.{RisesWithin, push_bound, pop_bound}
+use Rattle.dary_heap_uses.proofs.Common.{◌≡◌, ◌≢◌, ℕ, ◌+◌, ◌*◌, ◌<◌, ◌≤◌, min, List, [], ◌∷◌, ◌++◌, length, sym, subst, arith, inl, inr, Some, slice_set, Contains, length-append, length-map, IsPermutation-sym, IsPermutation-trans, IsPermutation-cons, IsPermutation-middle, IsPermutation-map, IsPermutation-append_left, IsPermutation-push_more, length_permutation, IsTotalOrder, Ordering, Greater, Reverse, IsSameBag, IsGreatest, RisesWithin, push_bound, pop_bound, front, came_cases, not_greater-trans, reversed_least, Contains-cases, Contains-first, Contains-later, depth-parent, KeepsGreatest, values}
 use Rattle.dary_heap.specs.HeapOrder.{parent, depth}
-use Rattle.dary_heap.specs.State.{front}
-use Rattle.dary_heap.proofs.Callers.{came_cases, not_greater-trans, reversed_least, Contains-cases, Contains-first, Contains-later}
-use Rattle.dary_heap.proofs.Depth.{depth-parent}
-use Rattle.dary_heap_uses.specs.Keeping.{KeepsGreatest, values}
 
 module _ {X : Type 0} {cmp : X → X → Ordering} (total : IsTotalOrder cmp) (k : ℕ) (items : List X) where
   -- there was room for it

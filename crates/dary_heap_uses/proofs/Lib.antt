@@ -1,3 +1,4 @@
+pub mod Common
 pub mod FirstFew
 pub mod Keeping
 pub mod Merging

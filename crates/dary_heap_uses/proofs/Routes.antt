@@ -1,14 +1,8 @@
 -- Roads as the edges of a graph.
-use Rattle.std.proofs.Common.{◌≡◌, ◌≢◌, ℕ, ◌<◌, inl, inr, List, [], ◌∷◌, ◌++◌, length, Contains, All, arith, get_or-set_same, get_or-set_other, refl, sym, ap, ◌∙◌, subst, Option, Some, None, IfNone, slice_get, Vec}
-use Rattle.std.specs.declared.alloc.Global.{Global}
-use Rattle.std.proofs.Math.ListN.{set, length-set}
-use Rattle.std.proofs.lemmas.Bool.{cases_eq, cases_lt}
-use Rattle.std.proofs.lemmas.List.Elements.{All-set, All-contains, All-push, All-same, Contains-push, Contains-push_cases, Contains-append_left}
-use Rattle.std.proofs.lemmas.Option.{slice_get_within, slice_get-get_or, slice_get_past, get_or_from_slice_get}
+use Rattle.dary_heap_uses.proofs.Common.{◌≡◌, ◌≢◌, ℕ, ◌<◌, inl, inr, List, [], ◌∷◌, ◌++◌, length, Contains, All, arith, get_or-set_same, get_or-set_other, refl, sym, ap, ◌∙◌, subst, Option, Some, None, IfNone, slice_get, Vec, Global, length-set, cases_eq, cases_lt, All-set, All-contains, All-push, All-same, Contains-push, Contains-push_cases, Contains-append_left, slice_get_within, slice_get-get_or, slice_get_past, get_or_from_slice_get, IsRoute, miles_of, IsShortest, HasTooLong, along, IsRoad, IsMap, Road}
+use Rattle.std.proofs.Math.ListN.{set}
 use Rattle.dary_heap.specs.Walk.{Graph, HasEdge, IsWalk, cost_of, IsLeastCost, IsUnreached, HasCritical}
 use Rattle.dary_heap.specs.declared.shortest_path.Edge.{Edge}
-use Rattle.dary_heap_uses.specs.Routes.{IsRoute, miles_of, IsShortest, HasTooLong, along, IsRoad, IsMap}
-use Rattle.dary_heap_uses.specs.declared.roads.Road.{Road}
 
 abbrev Row : Type 0
 Row = Vec Edge Global

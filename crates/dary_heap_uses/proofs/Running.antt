@@ -1,13 +1,5 @@
 -- The steps of a simulation, one more at a time.
-use Rattle.std.proofs.Common.{◌≡◌, ℕ, zero, suc, ◌+◌, ◌-◌, ◌≤◌, List, [], ◌∷◌, ◌++◌, length, map, take, arith, refl, sym, ap, ◌∙◌, subst, append-nil, append_assoc, length-append}
-use Rattle.std.proofs.lemmas.Fn.{FoldsTo-push}
-use Rattle.std.proofs.lemmas.List.{map-append}
-use Rattle.std.proofs.lemmas.List.Elements.{All-nil, All-push}
-use Rattle.std.proofs.lemmas.List.Sorted.{length_permutation, IsPermutation-refl, IsPermutation-trans, IsPermutation-cons, IsPermutation-append_left, IsPermutation-append_right, IsPermutation-append_comm, IsPermutation-to_front}
-use Rattle.dary_heap.specs.Bag.{IsSameBag}
-use Rattle.dary_heap.specs.Bounds.{RisesWithin, push_bound, pop_bound}
-use Rattle.dary_heap_uses.specs.Simulation.{Agenda, Step, scheduled_in, pushes_bound, steps_bound, NeverGoesBack, IsRun}
-use Rattle.dary_heap_uses.specs.declared.simulation.Event.{Event}
+use Rattle.dary_heap_uses.proofs.Common.{◌≡◌, ℕ, zero, suc, ◌+◌, ◌-◌, ◌≤◌, List, [], ◌∷◌, ◌++◌, length, map, take, arith, refl, sym, ap, ◌∙◌, subst, append-nil, append_assoc, length-append, FoldsTo-push, map-append, All-nil, All-push, length_permutation, IsPermutation-refl, IsPermutation-trans, IsPermutation-cons, IsPermutation-append_left, IsPermutation-append_right, IsPermutation-append_comm, IsPermutation-to_front, IsSameBag, RisesWithin, push_bound, pop_bound, Agenda, Step, scheduled_in, pushes_bound, steps_bound, NeverGoesBack, IsRun, Event}
 
 scheduled_in-push : (steps : List Step) (step : Step) → scheduled_in (steps ++ step ∷ []) ≡ scheduled_in steps ++ step.scheduled
 scheduled_in-push [] step = append-nil step.scheduled

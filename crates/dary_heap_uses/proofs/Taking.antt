@@ -1,12 +1,5 @@
 -- Timers that are taken one after another.
-use Rattle.std.proofs.Common.{◌≡◌, ℕ, suc, ◌+◌, ◌-◌, ◌≤◌, List, [], ◌∷◌, ◌++◌, length, All, get_or, arith, refl, sym, ap, ◌∙◌, subst, append_assoc}
-use Rattle.std.specs.List.Sorted.{IsNonDecreasingBy}
-use Rattle.std.proofs.lemmas.List.Elements.{All-push, All-tail, All-weaker, All-contains, All-get_or}
-use Rattle.std.proofs.lemmas.List.Sorted.{IsNonDecreasingBy-push, IsPermutation-trans, IsPermutation-append_right, All-permutation}
-use Rattle.dary_heap.specs.Bag.{IsSameBag}
-use Rattle.dary_heap.specs.Bounds.{pop_bound, pops_bound}
-use Rattle.dary_heap_uses.specs.Timers.{IsEarliest}
-use Rattle.dary_heap_uses.specs.declared.timers.Timer.{Timer}
+use Rattle.dary_heap_uses.proofs.Common.{◌≡◌, ℕ, suc, ◌+◌, ◌-◌, ◌≤◌, List, [], ◌∷◌, ◌++◌, length, All, get_or, arith, refl, sym, ap, ◌∙◌, subst, append_assoc, IsNonDecreasingBy, All-push, All-tail, All-weaker, All-contains, All-get_or, IsNonDecreasingBy-push, IsPermutation-trans, IsPermutation-append_right, All-permutation, IsSameBag, pop_bound, pops_bound, IsEarliest, Timer}
 
 -- the pops of n items are one and those of what it leaves
 pub pops_more : {n m : ℕ} → suc m ≡ n → pops_bound 4 n ≡ pop_bound 4 n + pops_bound 4 m

@@ -9,21 +9,16 @@ use dary_heap::DaryHeap;
 use std::alloc::{AllocError, Global};
 use std::mem;
 
-/// Pushes an item and pops a greatest one, which may be that item.
+/// Pushes an item and pops a greatest one, which may be that item. It takes no memory, so it can't fail.
 ///
-/// It takes no memory, so it can't fail. The item takes the place of the greatest through a loan, and goes
-/// down to its own place: one way down, and none if the greatest doesn't exceed it.
-///
-/// # Time
-///
-/// One comparison with the greatest item, and those that sifting it down takes.
+/// The item is compared with the greatest. A lesser one takes that one's place through a loan, and is sifted
+/// down: one way down, with the comparisons that this takes.
 ///
 /// # Examples
 ///
 /// ```
 /// use dary_heap::DaryHeap;
 /// use dary_heap_uses::exchange::push_pop;
-///
 /// let mut heap = DaryHeap::<_, 3>::from(vec![in alloc; 3, 8, 1]?);
 /// assert_eq!(rt; push_pop(&mut heap, 5), 8);
 /// assert_eq!(rt; push_pop(&mut heap, 9), 9);
@@ -44,19 +39,15 @@ pub fn push_pop<T: Ord + Drop, const D: usize>(heap: &mut DaryHeap<T, D>, item: 
     item
 }
 
-/// Moves a greatest item from one heap to another, and returns whether there was one.
-///
-/// # Errors
-///
-/// If the other heap has no room and gets no memory for one item more. Then neither heap has changed, since
-/// the room is reserved before the pop.
+/// Moves a greatest item from one heap to another, and returns whether there was one. Fails if the other
+/// heap has no room and memory allocation fails. Then neither heap has changed, since the room is reserved
+/// before the pop.
 ///
 /// # Examples
 ///
 /// ```
 /// use dary_heap::DaryHeap;
 /// use dary_heap_uses::exchange::move_greatest;
-///
 /// let mut low = DaryHeap::<_, 2>::from(vec![in alloc; 3, 8, 1]?);
 /// let mut high = DaryHeap::<_, 4>::new(alloc);
 /// assert_eq!(rt; move_greatest(&mut low, &mut high), Ok(true));

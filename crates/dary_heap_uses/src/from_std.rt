@@ -144,11 +144,8 @@ pub fn take_all<T: Ord, const D: usize>(
     mem::try_take(heap)
 }
 
-/// Adds a price for a place. The heap of a place is made with its first price.
-///
-/// # Errors
-///
-/// Returns `AllocError` if memory allocation fails. Then each place has the prices that it had.
+/// Adds a price for a place. The heap of a place is made with its first price. Fails if memory allocation
+/// fails. Then each place has the prices that it had.
 pub fn add_at(
     places: &mut collections::BTreeMap<u32, BinaryHeap<u32>>,
     place: u32,

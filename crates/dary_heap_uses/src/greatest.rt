@@ -11,19 +11,12 @@ use dary_heap::DaryHeap;
 use std::alloc::{AllocError, Global};
 use std::cmp::Reverse;
 
-/// Returns the `k` greatest items of a stream, or all if they are fewer, as a heap whose least item
-/// comes out first.
+/// Returns the `k` greatest items of a stream that ends, or all if they are fewer, as a heap whose least
+/// item comes out first. Fails if memory allocation fails, and drops all items then.
 ///
-/// No item that is left out is strictly greater than one that is kept. Of equal items any may stay.
-/// It never holds more than `k` items.
-///
-/// # Preconditions
-///
-/// - The stream ends.
-///
-/// # Errors
-///
-/// Returns `AllocError` if memory allocation for the kept items fails. All items are dropped then.
+/// No item that is left out is strictly greater than one that is kept. Of equal items any may stay. For
+/// each item it makes one comparison with the least that is kept, and in the heap at most as many as a
+/// push onto `k` items and a pop from `k` take.
 ///
 /// # Examples
 ///
@@ -31,16 +24,10 @@ use std::cmp::Reverse;
 /// use dary_heap::DaryHeap;
 /// use dary_heap_uses::greatest::greatest;
 /// use std::cmp::Reverse;
-///
 /// let mut kept: DaryHeap<_, 4> = greatest(alloc, [3, 8, 1, 5], 2)?;
 /// assert_eq!(rt; kept.pop(), Some(Reverse(5)));
 /// assert_eq!(rt; kept.pop(), Some(Reverse(8)));
 /// ```
-///
-/// # Time
-///
-/// For each item one comparison with the least that is kept, and in the heap at most as many
-/// comparisons as a push onto `k` items and a pop from `k` take.
 pub fn greatest<T: Ord + Drop, I: IntoIterator<Item = T>, const D: usize>(
     alloc: Global,
     stream: I,

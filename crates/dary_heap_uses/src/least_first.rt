@@ -1,10 +1,9 @@
 //! A heap that gives the least item first: a heap of `Reverse`, whose caller meets the items themselves.
-//!
-//! A clause sees it as the `Contents` of a heap, whose `items` are the bag of the items: a list whose order
-//! says nothing.
-ghost use Rattle.std.specs.Prelude.{◌≡◌, ◌-◌, ◌<◌, ◌≤◌, ◌↔◌, [], ◌∷◌, length, IsOk, IfErr, OnOk, OnErr, IsSome, IfSome, IfNone};
+//! A clause sees it as the `Contents` of a heap, whose `items` are a bag: their order says nothing.
+ghost use Rattle.std.specs.Prelude.{◌≡◌, ◌-◌, ◌<◌, ◌≤◌, ◌↔◌, [], ◌∷◌, length, map, IsOk, IfErr, OnOk, OnErr, IsSome, IfSome, IfNone};
 ghost use Rattle.dary_heap.specs.Bag.{IsSameBag};
 ghost use Rattle.dary_heap.specs.Bounds.{RisesWithin, push_bound, pop_bound};
+ghost use Rattle.dary_heap.specs.Contents.{Contents};
 ghost use Rattle.dary_heap_uses.specs.LeastFirst.{IsLeast};
 
 use dary_heap::DaryHeap;
@@ -18,7 +17,6 @@ use std::marker::Model;
 ///
 /// ```
 /// use dary_heap_uses::least_first::LeastFirst;
-///
 /// let mut heap = LeastFirst::<_, 4>::new(alloc);
 /// heap.push(5)?;
 /// heap.push(2)?;
@@ -32,9 +30,6 @@ pub struct LeastFirst<T: Ord, const D: usize> {
 }
 
 impl<T: Ord, const D: usize> Model for LeastFirst<T, D> {
-    ghost use Rattle.std.specs.Prelude.{map};
-    ghost use Rattle.dary_heap.specs.Contents.{Contents};
-
     ghost Value = { Contents T };
 
     ghost view = { λ heap. record {
@@ -74,16 +69,8 @@ impl<T: Ord, const D: usize> LeastFirst<T, D> {
         }
     }
 
-    /// Adds an item.
-    ///
-    /// # Errors
-    ///
-    /// If all room is in use and memory allocation fails. Then the heap is as it was, and the error is the
-    /// item itself, taken out of its `Reverse`.
-    ///
-    /// # Time
-    ///
-    /// As many comparisons as a push onto a heap may take.
+    /// Adds an item, with as many comparisons as a push onto a heap may take. Fails with the item if all
+    /// room is in use and memory allocation fails. Then the heap is as it was.
     pub fn push(&mut self, item: T) -> Result<(), T>
         ensures bag { OnOk result (IsSameBag (item ∷ self.old.items) self.new.items) }
         ensures counted { OnOk result (RisesWithin self.old.comparisons self.new.comparisons
@@ -102,11 +89,8 @@ impl<T: Ord, const D: usize> LeastFirst<T, D> {
         }
     }
 
-    /// Removes a least item and returns it, or `None` if there is no item.
-    ///
-    /// # Time
-    ///
-    /// As many comparisons as a pop from a heap may take.
+    /// Removes a least item and returns it, or `None` if there is no item. It makes as many comparisons
+    /// as a pop from a heap may take.
     pub fn pop(&mut self) -> Option<T>
         ensures variant { IsSome result ↔ (0 < length self.old.items) }
         ensures least { IfSome result (IsLeast T.cmp self.old.items) }

@@ -6,17 +6,13 @@ ghost use Rattle.dary_heap.specs.HeapOrder.{IsHeapOrdered};
 
 use dary_heap::sift::{ByOrd, fix_with, remove_with};
 
-/// Puts another number at a place of a slice that is heap ordered at arity 4, and leaves it so.
-///
-/// # Preconditions
-///
-/// - The slice is heap ordered, and the place is below its length.
+/// Puts another number at a place, below the length, of a slice that is heap ordered at arity 4, and leaves
+/// it so.
 ///
 /// # Examples
 ///
 /// ```
 /// use dary_heap_uses::places::change;
-///
 /// let mut items = [9, 5, 7, 1, 2];
 /// change(&mut items, 3, 10);
 /// assert_eq!(rt; items, [10, 5, 7, 9, 2]);
@@ -31,18 +27,13 @@ pub fn change(items: &mut [u64], place: usize, item: u64)
     fix_with::<_, _, 4>(items, place, &mut ByOrd::new());
 }
 
-/// Moves the number at a place of a slice that is heap ordered at arity 4 to the end. Those before it are heap
-/// ordered afterwards.
-///
-/// # Preconditions
-///
-/// - The slice is heap ordered, and the place is below its length.
+/// Moves the number at a place, below the length, of a slice that is heap ordered at arity 4 to the end.
+/// Those before it are heap ordered afterwards.
 ///
 /// # Examples
 ///
 /// ```
 /// use dary_heap_uses::places::move_to_end;
-///
 /// let mut items = [9, 5, 7, 1, 2];
 /// move_to_end(&mut items, 1);
 /// assert_eq!(rt; items, [9, 2, 7, 1, 5]);

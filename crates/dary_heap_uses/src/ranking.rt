@@ -7,18 +7,14 @@ ghost use Rattle.dary_heap_uses.specs.Keeping.{KeepsGreatest};
 use dary_heap::DaryHeap;
 use std::alloc::{AllocError, Global};
 
-/// Returns the items of a heap in descending order. Equal items come in any order.
-///
-/// # Errors
-///
-/// Returns `AllocError` if memory allocation fails. All items are dropped then.
+/// Returns the items of a heap in descending order. Equal items come in any order. Fails if memory
+/// allocation fails, and drops all items then.
 ///
 /// # Examples
 ///
 /// ```
 /// use dary_heap::DaryHeap;
 /// use dary_heap_uses::ranking::ranked;
-///
 /// let heap = DaryHeap::<_, 3>::from(vec![in alloc; 3, 8, 1, 5]?);
 /// assert_eq!(rt; ranked(alloc, heap)?.as_slice(), [8, 5, 3, 1].as_slice());
 /// ```
@@ -32,21 +28,14 @@ pub fn ranked<T: Ord + Drop, const D: usize>(
     heap.into_iter_sorted().collect(alloc)
 }
 
-/// Returns the first `k` items of the ranking, or all if they are fewer.
-///
-/// No item that is left out is strictly greater than one of them. Of equal items any may be left
-/// out.
-///
-/// # Errors
-///
-/// Returns `AllocError` if memory allocation fails. All items are dropped then.
+/// Returns the first `k` items of the ranking, or all if they are fewer. No item that is left out is
+/// strictly greater than one of them. Of equal items any may be left out. Fails as [`ranked`] does.
 ///
 /// # Examples
 ///
 /// ```
 /// use dary_heap::DaryHeap;
 /// use dary_heap_uses::ranking::first_ranked;
-///
 /// let heap = DaryHeap::<_, 3>::from(vec![in alloc; 3, 8, 1, 5]?);
 /// assert_eq!(rt; first_ranked(alloc, heap, 2)?.as_slice(), [8, 5].as_slice());
 /// ```

@@ -27,28 +27,22 @@ pub fn is_joining(places: usize, roads: &[Road]) -> bool
 }
 
 /// Returns the length of the shortest route from one place to another in miles, or `None` if there is no
-/// route.
+/// route. The places are the numbers below `places`: `start` must be one, and so must both ends of each
+/// road ([`is_joining`] tests that). `end` may be any number.
 ///
-/// # Preconditions
-///
-/// The places are the numbers below `places`: `start` is one, and so are both ends of each road
-/// ([`is_joining`] tests that). `end` may be any number.
-///
-/// # Errors
-///
-/// Returns `NoMemory` if memory allocation fails. Returns `CostTooLarge` only if a place that is no further
-/// away than `end` has a road with which the miles from `start` on reach `usize::MAX`.
+/// Fails with `NoMemory` if memory allocation fails, and with `CostTooLarge` only if a place that is no
+/// further away than `end` has a road with which the miles from `start` on reach `usize::MAX`.
 ///
 /// # Examples
 ///
 /// ```
 /// use dary_heap_uses::roads::{Road, shortest_route};
-///
 /// let road = |start, end, miles| Road { start, end, miles };
 /// let roads = [road(0, 1, 4), road(0, 2, 1), road(2, 1, 2)];
 /// assert_eq!(rt; shortest_route(alloc, 3, &roads, 0, 1), Ok(Some(3)));
 /// assert_eq!(rt; shortest_route(alloc, 3, &roads, 1, 0), Ok(None));
 /// ```
+#[tactic(auto, using(crate::proofs::Routes::shortest, crate::proofs::Routes::no_route, crate::proofs::Routes::too_long))]
 pub fn shortest_route(
     alloc: Global,
     places: usize,
@@ -81,9 +75,7 @@ fn edges_of(alloc: Global, places: usize, roads: &[Road]) -> Result<Vec<Vec<Edge
             node: road.end,
             cost: road.miles,
         };
-        let Ok(()) = edges[road.start].push(edge) else {
-            return Err(AllocError);
-        };
+        edges[road.start].push(edge)?;
     }
     Ok(edges)
 }
@@ -95,9 +87,7 @@ fn empty_rows(alloc: Global, places: usize) -> Result<Vec<Vec<Edge>>, AllocError
 {
     let mut rows = Vec::new(alloc);
     for _ in 0..places {
-        let Ok(()) = rows.push(Vec::new(alloc)) else {
-            return Err(AllocError);
-        };
+        rows.push(Vec::new(alloc))?;
     }
     Ok(rows)
 }

@@ -1,10 +1,8 @@
-//! A scheduler in fixed memory: jobs of the greatest priority come first, and among equal ones the job
-//! that came first.
-//!
-//! A heap doesn't say which of two equal items comes out first. So each job gets a number that counts up,
-//! and the number stands beside the priority.
+//! A scheduler in fixed memory. A heap doesn't say which of two equal items comes out first. So each job gets
+//! a number that counts up, and the number stands beside the priority.
 ghost use Rattle.std.specs.Prelude.{◌≡◌, ◌+◌, ◌<◌, ◌≤◌, ◌↔◌, [], ◌∷◌, length, IsTrue, IsOk, IfOk, IfErr, OnOk, OnErr, IsSome, IfSome, IfNone};
 ghost use Rattle.dary_heap.specs.Bag.{IsSameBag};
+ghost use Rattle.dary_heap_uses.specs.Scheduling.{Schedule, IsNumbered, IsTaken, waiting};
 
 use dary_heap::QuaternaryHeap;
 use std::alloc::{AllocError, Global};
@@ -31,7 +29,6 @@ pub struct Waiting<J> {
 ///
 /// ```
 /// use dary_heap_uses::scheduler::Scheduler;
-///
 /// let mut scheduler = Scheduler::with_room(alloc, 2)?;
 /// scheduler.add(1, "sweep")?;
 /// scheduler.add(5, "cook")?;
@@ -47,8 +44,6 @@ pub struct Scheduler<J> {
 }
 
 impl<J> Model for Scheduler<J> {
-    ghost use Rattle.dary_heap_uses.specs.Scheduling.{Schedule, IsNumbered};
-
     ghost Value = { Schedule J };
 
     ghost view = { λ s. record { waiting = s.jobs.items; came = s.came; room = s.jobs.capacity } };
@@ -57,13 +52,12 @@ impl<J> Model for Scheduler<J> {
 }
 
 impl<J> Scheduler<J> {
-    ghost use Rattle.dary_heap_uses.specs.Scheduling.{waiting, IsTaken};
-
     /// Returns a scheduler without jobs, with room for `room` of them.
     ///
     /// # Errors
     ///
     /// Returns `AllocError` if memory allocation fails.
+    #[tactic(auto, using(crate::proofs::Scheduling::numbered_none))]
     pub fn with_room(alloc: Global, room: usize) -> Result<Scheduler<J>, AllocError>
     where
         J: Drop,
@@ -97,23 +91,14 @@ impl<J> Scheduler<J> {
         self.came
     }
 
-    /// Adds a job. It allocates no memory.
-    ///
-    /// # Preconditions
-    ///
-    /// - Fewer than `u64::MAX` jobs were added so far.
-    ///
-    /// # Errors
-    ///
-    /// Returns the job if all room is in use. Nothing has changed then.
+    /// Adds a job, if fewer than `u64::MAX` were added so far (a precondition). It allocates no memory.
+    /// Fails with the job if all room is in use. Nothing has changed then.
     pub fn add(&mut self, priority: u32, job: J) -> Result<(), J>
         requires { self.old.came < u64.MAX }
         ensures waits { OnOk result
             (IsSameBag (waiting priority self.old.came job ∷ self.old.waiting) self.new.waiting) }
         ensures came { OnOk result (self.new.came ≡ self.old.came + 1) }
         ensures room { self.new.room ≡ self.old.room }
-
-        // It fails only if all room is in use, and then nothing has changed.
         ensures succeeds { length self.old.waiting < self.old.room → IsOk result }
         ensures full { OnErr result (self.old.room ≤ length self.old.waiting) }
         ensures returned { IfErr result (λ back. back ≡ job) }
@@ -134,8 +119,7 @@ impl<J> Scheduler<J> {
         Ok(())
     }
 
-    /// Removes the job that is to come first and returns it, or returns `None` if no job waits. The
-    /// room stays the same.
+    /// Removes the job that is to come first and returns it, or `None` if no job waits. The room stays.
     pub fn take(&mut self) -> Option<J>
         ensures variant { IsSome result ↔ (0 < length self.old.waiting) }
         ensures first { IfSome result (λ job. IsTaken self.old.waiting job self.new.waiting) }

@@ -1,12 +1,10 @@
-//! An event simulation: events are handled in the order of their moments, and what handles them
-//! schedules further ones.
-//!
-//! A clause sees a simulation as the `Agenda` of `specs/Simulation.antt`: the present moment, the bag of
-//! the events that wait, how many there is room for, and how many comparisons the heap made.
+//! An event simulation: events are handled in the order of their moments, and what handles them schedules
+//! further ones. A clause sees a simulation as the `Agenda` of `specs/Simulation.antt`.
 ghost use Rattle.std.specs.Prelude.{◌≡◌, ◌+◌, ◌<◌, ◌≤◌, [], ◌∷◌, ◌++◌, List, All, map, length, IfSome, IfNone, IfOk, IfErr, OnOk, OnErr, IsOk};
 ghost use Rattle.dary_heap.specs.Bag.{IsSameBag};
 ghost use Rattle.dary_heap.specs.Bounds.{RisesWithin, push_bound, pop_bound};
-ghost use Rattle.dary_heap_uses.specs.Simulation.{Step, IsRun, pushes_bound};
+ghost use Rattle.dary_heap_uses.specs.Simulation.{Agenda, Step, IsRun, pushes_bound};
+ghost use Rattle.dary_heap_uses.specs.declared.simulation.Event.{Event};
 
 use dary_heap::TernaryHeap;
 use std::alloc::{AllocError, Global};
@@ -24,9 +22,6 @@ pub struct Event {
 
 /// What handles the events of a simulation.
 pub trait Handler {
-    ghost use Rattle.std.specs.Prelude.{List};
-    ghost use Rattle.dary_heap_uses.specs.declared.simulation.Event.{Event};
-
     /// It handled this event, scheduled these, and was changed so.
     ghost handles: { Self → Event → List Event → Self → Type 0 };
 
@@ -43,7 +38,6 @@ pub trait Handler {
 ///
 /// ```
 /// use dary_heap_uses::simulation::{Event, Simulation};
-///
 /// let mut simulation = Simulation::new(alloc);
 /// simulation.schedule(Event { moment: 3, kind: 1 })?;
 /// assert_eq!(rt; simulation.moment(), 0);
@@ -55,9 +49,6 @@ pub struct Simulation {
 }
 
 impl Model for Simulation {
-    ghost use Rattle.std.specs.Prelude.{◌≤◌, All, map};
-    ghost use Rattle.dary_heap_uses.specs.Simulation.{Agenda};
-
     ghost Value = { Agenda };
 
     ghost view = { λ simulation. record {
@@ -85,8 +76,7 @@ impl Simulation {
         }
     }
 
-    /// Returns the present moment: that of the event that was handled last. No event that waits is
-    /// before it.
+    /// Returns the present moment: that of the event that was handled last. No event that waits is before it.
     pub fn moment(&self) -> u64
         ensures moment { result ≡ self.now.moment }
         ensures none_before { All (λ event. self.now.moment ≤ event.moment) self.now.waiting }
@@ -94,13 +84,9 @@ impl Simulation {
         self.moment
     }
 
-    /// Reserves room for at least `additional` more events. After `Ok` that many can be scheduled
-    /// without an error.
-    ///
-    /// # Errors
-    ///
-    /// Returns `AllocError` if memory allocation fails, which happens only if that room was
-    /// missing. Nothing has changed then.
+    /// Reserves room for at least `additional` more events. After `Ok` that many can be scheduled without
+    /// an error. Fails if memory allocation fails, which happens only if that room was missing. Nothing has
+    /// changed then.
     pub fn reserve(&mut self, additional: usize) -> Result<(), AllocError>
         ensures moment { self.new.moment ≡ self.old.moment }
         ensures waiting { self.new.waiting ≡ self.old.waiting }
@@ -112,20 +98,9 @@ impl Simulation {
         self.waiting.reserve(additional)
     }
 
-    /// Schedules an event.
-    ///
-    /// # Preconditions
-    ///
-    /// - The event is not before the present moment.
-    ///
-    /// # Errors
-    ///
-    /// Returns the event if memory allocation fails, which happens only if all room is in use.
-    /// Nothing has changed then.
-    ///
-    /// # Time
-    ///
-    /// At most as many comparisons as a push onto the events that wait.
+    /// Schedules an event, which must not be before the present moment, with at most as many comparisons
+    /// as a push onto the events that wait. Fails with the event if memory allocation fails, which happens
+    /// only if all room is in use. Nothing has changed then.
     pub fn schedule(&mut self, event: Event) -> Result<(), Event>
         requires { self.old.moment ≤ event.moment }
         ensures scheduled { OnOk result (IsSameBag (event ∷ self.old.waiting) self.new.waiting) }
@@ -134,8 +109,6 @@ impl Simulation {
             (push_bound 3 (length self.old.waiting))) }
         ensures room { self.old.room ≤ self.new.room }
         ensures kept { length self.old.waiting < self.old.room → self.new.room ≡ self.old.room }
-
-        // It fails only if all room is in use, and then nothing has changed.
         ensures succeeds { length self.old.waiting < self.old.room → IsOk result }
         ensures full { OnErr result (self.old.room ≤ length self.old.waiting) }
         ensures returned { IfErr result (λ back. back ≡ event) }
@@ -148,18 +121,12 @@ impl Simulation {
     }
 
     /// Handles the events up to an end in the order of their moments, those too that are scheduled
-    /// meanwhile, but no more than the budget allows. Returns the number of events that it handled:
-    /// if that is below the budget, no event up to the end waits any more.
+    /// meanwhile, but no more than the budget allows. Returns the number of events that it handled: if that
+    /// is below the budget, no event up to the end waits any more. For each event it makes at most as many
+    /// comparisons as a pop of the events that wait then and a push of each that is scheduled.
     ///
-    /// # Errors
-    ///
-    /// Returns the events that the handler scheduled last, if memory allocation for them fails.
-    /// Nothing is handled after that.
-    ///
-    /// # Time
-    ///
-    /// For each event that it handles at most as many comparisons as a pop of the events that wait
-    /// then and a push of each that is scheduled.
+    /// Fails with the events that the handler scheduled last, if memory allocation for them fails. Nothing
+    /// is handled after that.
     pub fn run<H: Handler>(
         &mut self,
         handler: &mut H,

@@ -1,11 +1,9 @@
-//! A timer queue: timers are set for a moment, and taken out once it has come.
-//!
-//! A clause sees a queue as the `Timers` of `specs/Timers.antt`: the bag of the timers that are set, a list
-//! whose order says nothing, how many there is room for, and how many comparisons the heap made.
-ghost use Rattle.std.specs.Prelude.{◌≡◌, ◌+◌, ◌-◌, ◌<◌, ◌≤◌, ◌↔◌, [], ◌∷◌, All, length, vec_len, vec_capacity, IfSome, IfNone, IfErr, OnOk, OnErr, IsOk};
+//! A timer queue: timers are set for a moment, and taken out once it has come. A clause sees a queue as the
+//! `Timers` of `specs/Timers.antt`.
+ghost use Rattle.std.specs.Prelude.{◌≡◌, ◌+◌, ◌-◌, ◌<◌, ◌≤◌, [], ◌∷◌, All, length, map, vec_len, vec_capacity, IfSome, IfNone, IfErr, OnOk, OnErr, IsOk};
 ghost use Rattle.dary_heap.specs.Bag.{IsSameBag};
 ghost use Rattle.dary_heap.specs.Bounds.{RisesWithin, push_bound, pop_bound, pops_bound};
-ghost use Rattle.dary_heap_uses.specs.Timers.{IsEarliest, AddsDue};
+ghost use Rattle.dary_heap_uses.specs.Timers.{Timers, IsEarliest, AddsDue};
 
 use dary_heap::QuaternaryHeap;
 use std::alloc::{AllocError, Global};
@@ -27,7 +25,6 @@ pub struct Timer {
 ///
 /// ```
 /// use dary_heap_uses::timers::{Timer, TimerQueue};
-///
 /// let mut queue = TimerQueue::new(alloc);
 /// queue.set(Timer { moment: 9, name: 1 })?;
 /// queue.set(Timer { moment: 3, name: 2 })?;
@@ -42,9 +39,6 @@ pub struct TimerQueue {
 }
 
 impl Model for TimerQueue {
-    ghost use Rattle.std.specs.Prelude.{map};
-    ghost use Rattle.dary_heap_uses.specs.Timers.{Timers};
-
     ghost Value = { Timers };
 
     ghost view = { λ queue. record {
@@ -66,13 +60,9 @@ impl TimerQueue {
         }
     }
 
-    /// Reserves room for at least `additional` more timers. After `Ok` that many can be set without
-    /// an error.
-    ///
-    /// # Errors
-    ///
-    /// Returns `AllocError` if memory allocation fails, which happens only if that room was
-    /// missing. Nothing has changed then.
+    /// Reserves room for at least `additional` more timers. After `Ok` that many can be set without an
+    /// error. Fails if memory allocation fails, which happens only if that room was missing. Nothing has
+    /// changed then.
     pub fn reserve(&mut self, additional: usize) -> Result<(), AllocError>
         ensures set { self.new.set ≡ self.old.set }
         ensures uncounted { self.new.comparisons ≡ self.old.comparisons }
@@ -83,24 +73,14 @@ impl TimerQueue {
         self.waiting.reserve(additional)
     }
 
-    /// Sets a timer.
-    ///
-    /// # Errors
-    ///
-    /// Returns the timer if memory allocation fails, which happens only if all room is in use.
-    /// Nothing has changed then.
-    ///
-    /// # Time
-    ///
-    /// At most as many comparisons as a push onto the timers that are set.
+    /// Sets a timer, with at most as many comparisons as a push onto the timers that are set. Fails with the
+    /// timer if memory allocation fails, which happens only if all room is in use. Nothing has changed then.
     pub fn set(&mut self, timer: Timer) -> Result<(), Timer>
         ensures set { OnOk result (IsSameBag (timer ∷ self.old.set) self.new.set) }
         ensures counted { OnOk result (RisesWithin self.old.comparisons self.new.comparisons
             (push_bound 4 (length self.old.set))) }
         ensures room { self.old.room ≤ self.new.room }
         ensures kept { length self.old.set < self.old.room → self.new.room ≡ self.old.room }
-
-        // It fails only if all room is in use, and then nothing has changed.
         ensures succeeds { length self.old.set < self.old.room → IsOk result }
         ensures full { OnErr result (self.old.room ≤ length self.old.set) }
         ensures returned { IfErr result (λ back. back ≡ timer) }
@@ -112,13 +92,8 @@ impl TimerQueue {
         }
     }
 
-    /// Removes the earliest timer and returns it if its moment has come, and otherwise returns
-    /// `None`.
-    ///
-    /// # Time
-    ///
-    /// At most as many comparisons as a pop of the timers that are set, and none if it returns
-    /// `None`.
+    /// Removes the earliest timer and returns it if its moment has come, and otherwise returns `None`. It
+    /// makes at most as many comparisons as a pop of the timers that are set, and none if it returns `None`.
     pub fn take_next(&mut self, now: u64) -> Option<Timer>
         ensures earliest { IfSome result (IsEarliest self.old.set) }
         ensures due { IfSome result (λ timer. timer.moment ≤ now) }
@@ -133,17 +108,11 @@ impl TimerQueue {
         Some(timer)
     }
 
-    /// Removes all timers whose moments have come, in the order of these, and adds them to a list.
+    /// Removes all timers whose moments have come, in the order of these, and adds them to a list. For each
+    /// it makes at most as many comparisons as a pop of the timers that are still set.
     ///
-    /// # Errors
-    ///
-    /// Returns `AllocError` if memory allocation fails, which happens only if the list has no room
-    /// for all timers that are set. Nothing has changed then.
-    ///
-    /// # Time
-    ///
-    /// For each timer that is taken at most as many comparisons as a pop of the timers that are
-    /// still set.
+    /// Fails if memory allocation fails, which happens only if the list has no room for all timers that are
+    /// set. Nothing has changed then.
     pub fn take_due(&mut self, now: u64, due: &mut Vec<Timer>) -> Result<(), AllocError>
         ensures taken { OnOk result
             (AddsDue now self.old.set self.new.set due.old.items due.new.items) }

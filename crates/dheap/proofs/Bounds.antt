@@ -1,17 +1,13 @@
 -- A run with predicates that ask whether a number is at least a bound is a run with the bounds.
-use Rattle.std.proofs.Common.{◌≡◌, ℕ, ℤ, Bool, true, false, List, [], ◌∷◌, ◌++◌, None, Some, refl, sym, ap, ◌∙◌, subst, inl, inr, int_le, All, is_some}
+use Rattle.dheap.proofs.Common.{◌≡◌, ℕ, ℤ, Bool, true, false, List, [], ◌∷◌, ◌++◌, None, Some, refl, sym, ap, ◌∙◌, subst, inl, inr, int_le, All, is_some, Command, Step, Steps, MayAnswer, PopIf, Ask, Retain, DrainSorted, Popped, Asked, Done, text, AsksAtLeast, MayPrint, CarryOut, CarryOutLine, Say, lines_of, Line}
 use Rattle.std.specs.List.Retain.{ReturnsInTurn, IsFiltered}
 use Rattle.std.specs.Ordering.{int_cmp}
-use Rattle.dary_heap.specs.Machine.{Command, Reply, Step, Steps, MayAnswer, Push, Pop, PopIf, Ask, Len, Retain, DrainSorted, Popped, Asked, Done}
+use Rattle.dary_heap.specs.Machine.{Reply, Push, Pop, Len}
 use Rattle.std.specs.Fn.{Mut, CalledAt}
 use denote.Ref.{Bor}
 use Rattle.dary_heap.specs.Contents.{Contents}
 use Rattle.dary_heap.specs.Run.{Runs}
-use Rattle.dheap.specs.Answers.{text}
 use Rattle.dheap.specs.Answers as answers_of
-use Rattle.dheap.specs.Program.{AsksAtLeast, MayPrint}
-use Rattle.dheap.specs.Script.{CarryOut, CarryOutLine, Say, lines_of}
-use Rattle.dheap.specs.declared.serve.line.Line.{Line}
 use Rattle.dheap.specs.declared.serve.line.Line.TheVariants as line
 
 module _ {P : Type 0} (calls : P → ℤ → Bool → P → Type 0) (means : ℤ → P → Type 0)
@@ -80,19 +76,13 @@ module _ {P : Type 0} (calls : P → ℤ → Bool → P → Type 0) (means : ℤ
   run_on old (c ∷ cs) (b ∷ bs) (r ∷ rs) [] pairs h = absurd h
   run_on old (c ∷ cs) (b ∷ bs) (r ∷ rs) (s ∷ ss) pairs h = (pairs.0 old r s h.0, run_on s cs bs rs ss pairs.1 h.1)
 
-  pub may_print : (script : List ℕ) (lines : List Line) (commands : List (Command ℤ P)) (replies : List (Reply ℤ)) (states : List (List ℤ))
-      → Say (lines_of script) lines → CarryOut means commands lines → Steps int_cmp calls [] commands replies states → All (λ reply. is_some (answers_of.answer reply) ≡ true) replies
-      → MayPrint script (text replies)
-  may_print script lines commands replies states say carry run whole =
-      let (bounds, told, pairs) = bounds_of lines commands carry in
-      (lines, bounds, replies, states, say, told, run_on [] commands bounds replies states pairs run, whole, refl)
-
--- the same of what a call of `run` on an empty heap ensures, with the law last, and the replies as they are handed on
+-- what a call of `run` on an empty heap ensures, with the law last, and the replies as they are handed on
 pub may_print_by : {P : Type 0} {calls : Mut P (Bor ℤ × Unit {0}) Bool} {means : ℤ → P → Type 0} {D : ℕ} {old new : Contents ℤ} {commands : List (Command ℤ P)} {replies shown : List (Reply ℤ)} (script : List ℕ) (lines : List Line)
     → Say (lines_of script) lines → CarryOut means commands lines → Runs int_cmp (CalledAt calls) D old commands replies new → old.items ≡ [] → shown ≡ replies
     → All (λ reply. is_some (answers_of.answer reply) ≡ true) shown
     → ((n : ℤ) (p : P) (x : ℤ) (a : Bool) (q : P) → means n p → CalledAt calls p x a q → (a ≡ int_le n x) × means n q)
     → MayPrint script (text shown)
 may_print_by {P} {calls} {means} {D} {old} {new} {commands} {replies} {shown} script lines say carry runs none same whole law =
-    may_print (CalledAt calls) means law script lines commands shown runs.states say carry
-    (subst (λ items. Steps int_cmp (CalledAt calls) items commands shown runs.states) none (subst (λ rs. Steps int_cmp (CalledAt calls) old.items commands rs runs.states) (sym same) runs.run)) whole
+    let (bounds, told, pairs) = bounds_of (CalledAt calls) means law lines commands carry in
+    let run : Steps int_cmp (CalledAt calls) [] commands shown runs.states = subst (λ items. Steps int_cmp (CalledAt calls) items commands shown runs.states) none (subst (λ rs. Steps int_cmp (CalledAt calls) old.items commands rs runs.states) (sym same) runs.run) in
+    (lines, bounds, shown, runs.states, say, told, run_on (CalledAt calls) means law [] commands bounds shown runs.states pairs run, whole, refl)

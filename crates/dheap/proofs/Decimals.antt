@@ -1,11 +1,7 @@
 -- How the digits of a number are written, from the last to the first, two at a time.
-use Rattle.std.proofs.Common.{◌≡◌, ◌==◌, ◌&&◌, ◌+◌, ◌-◌, ◌*◌, ◌/◌, ◌%◌, ◌^◌, ◌<◌, ◌≤◌, ℕ, ℤ, zero, suc, Bool, true, List, [], ◌∷◌, ◌++◌, codes, flat_map, length, drop, get_or, set, refl, sym, ap, ◌∙◌, append_assoc, append-nil, Result, Ok, Err, OnOk, arith}
-use Rattle.std.specs.Fmt.{decimal, signed_decimal}
-use Rattle.std.proofs.lemmas.Bool.Decides.{Decides-and, Decides-below_and, Decides-eqb}
+use Rattle.dheap.proofs.Common.{◌≡◌, ◌==◌, ◌&&◌, ◌+◌, ◌-◌, ◌*◌, ◌/◌, ◌%◌, ◌^◌, ◌<◌, ◌≤◌, ℕ, ℤ, zero, suc, Bool, true, List, [], ◌∷◌, ◌++◌, codes, flat_map, length, drop, get_or, set, refl, sym, ap, ◌∙◌, append_assoc, append-nil, Result, Ok, Err, OnOk, arith, decimal, signed_decimal, Decides-and, Decides-below_and, Decides-eqb, listing, PAIRS}
 use Rattle.std.proofs.lemmas.Fmt.{decimal_digit, decimal_step}
 use Rattle.std.proofs.lemmas.Grind.{drop-set_at}
-use Rattle.dheap.specs.Answers.{listing}
-use Rattle.dheap.specs.declared.serve.TheConstants.{PAIRS}
 
 abbrev in_table : ℕ → Bool
 in_table p = (get_or PAIRS (p * 2) 0 == 48 + p / 10) && (get_or PAIRS (p * 2 + 1) 0 == 48 + p % 10)

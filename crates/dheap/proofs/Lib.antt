@@ -1,6 +1,6 @@
 pub mod Bounds
+pub mod Common
 pub mod Decimals
-pub mod Numerals
 pub mod Parting
 pub mod Plain
 pub mod Scripts

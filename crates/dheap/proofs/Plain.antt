@@ -1,32 +1,38 @@
 -- How a line is read that is written plainly.
-use Rattle.std.proofs.Common.{◌≡◌, ◌+◌, ◌<◌, ◌==◌, ◌||◌, ℕ, ℤ, pos, neg_ℤ, ◌-ℤ◌, FitsSigned, codes, Bool, true, false, cond, List, [], ◌∷◌, ◌++◌, All, length, take, drop, get_or, refl, sym, ap, subst, ◌∙◌, arith}
-use Rattle.std.specs.Int.{IsInRange, w64}
-use Rattle.std.specs.List.{slice_split, onto_first, filter}
-use Rattle.std.specs.Str.Parse.{AllDigits, IsNumeral, digits_value, signed_digits_value, starts_with_minus, without_leading_plus, without_leading_sign}
+use Rattle.dheap.proofs.Common.{◌≡◌, ◌+◌, ◌<◌, ◌==◌, ◌||◌, ℕ, ℤ, pos, neg_ℤ, ◌-ℤ◌, FitsSigned, codes, Bool, true, false, cond, List, [], ◌∷◌, ◌++◌, All, length, take, drop, get_or, refl, sym, ap, subst, ◌∙◌, arith, IsInRange, w64, slice_split, onto_first, filter, AllDigits, IsNumeral, digits_value, signed_digits_value, starts_with_minus, without_leading_plus, without_leading_sign, ne_eqb, eqb-true, take-append-drop, All-cons, All-nil, slice_split_at, slice_split_none, digit_at, true≢false, IsFirstLine, is_blank, lines_of, words_of}
 use Rattle.std.proofs.Math.IntN.{+ℤ_idl}
-use Rattle.std.proofs.lemmas.Bool.{ne_eqb, eqb-true}
-use Rattle.std.proofs.lemmas.List.{take-append-drop}
-use Rattle.std.proofs.lemmas.List.Elements.{All-cons, All-nil}
-use Rattle.std.proofs.lemmas.List.Splits.{slice_split_at, slice_split_none}
-use Rattle.std.proofs.lemmas.Str.Parse.{digit_at}
-use Rattle.dheap.specs.Script.{IsFirstLine, is_blank, lines_of, words_of}
-use Rattle.dheap.specs.Words.{IsNumber}
+use Rattle.std.proofs.lemmas.Str.{IsUtf8-from_ascii}
+use Rattle.std.proofs.lemmas.Str.Ascii.{IsAscii-from_all}
+use Rattle.std.specs.Str.{IsUtf8}
+use Rattle.dheap.specs.Words.{IsCount, IsNumber}
 use Rattle.dheap.specs.declared.serve.line.Line.TheVariants.{Push, Pop, Len, Test}
 use Rattle.dheap.proofs.Parting.{word_kept}
 
--- a number holds nothing that parts lines or words
-module _ (p : ℕ → Bool) (plus : p 43 ≡ false) (minus : p 45 ≡ false) (digit : (c : ℕ) → IsInRange 48 57 c → p c ≡ false) where
-  in_digits : (ds : List ℕ) → AllDigits 10 ds → All (λ c. p c ≡ false) ds
-  in_digits [] h = All-nil (λ c. p c ≡ false)
-  in_digits (c ∷ cs) h = All-cons (λ c. p c ≡ false) c cs (digit c (digit_at (c ∷ cs) 0 h (omega arith))) (in_digits cs h.1)
+-- what holds of signs and digits holds of each byte of a number and of a count
+module _ (P : ℕ → Type 0) (plus : P 43) (minus : P 45) (digit : (c : ℕ) → IsInRange 48 57 c → P c) where
+  in_digits : (ds : List ℕ) → AllDigits 10 ds → All P ds
+  in_digits [] h = All-nil P
+  in_digits (c ∷ cs) h = All-cons P c cs (digit c (digit_at (c ∷ cs) 0 h (omega arith))) (in_digits cs h.1)
 
-  in_number : (word : List ℕ) → IsNumeral 10 (without_leading_sign word) → All (λ c. p c ≡ false) word
-  in_number [] h = All-nil (λ c. p c ≡ false)
-  in_number (c ∷ cs) h = by (c == 45) (c == 43) (eqb-true c 45) (eqb-true c 43) h where
-    by : (m q : Bool) → (m ≡ true → c ≡ 45) → (q ≡ true → c ≡ 43) → IsNumeral 10 (cond m cs (drop (cond q 1 0) (c ∷ cs))) → All (λ c. p c ≡ false) (c ∷ cs)
-    by true q e f k = All-cons (λ c. p c ≡ false) c cs (ap p (e refl) ∙ minus) (in_digits cs k.1)
-    by false true e f k = All-cons (λ c. p c ≡ false) c cs (ap p (f refl) ∙ plus) (in_digits cs k.1)
-    by false false e f k = in_digits (c ∷ cs) k.1
+  after_sign : (c : ℕ) (cs : List ℕ) (m q : Bool) → (m ≡ true → c ≡ 45) → (q ≡ true → c ≡ 43) → IsNumeral 10 (cond m cs (drop (cond q 1 0) (c ∷ cs))) → All P (c ∷ cs)
+  after_sign c cs true q e f h = All-cons P c cs (subst P (sym (e refl)) minus) (in_digits cs h.1)
+  after_sign c cs false true e f h = All-cons P c cs (subst P (sym (f refl)) plus) (in_digits cs h.1)
+  after_sign c cs false false e f h = in_digits (c ∷ cs) h.1
+
+  in_number : (word : List ℕ) → IsNumeral 10 (without_leading_sign word) → All P word
+  in_number [] h = All-nil P
+  in_number (c ∷ cs) h = after_sign c cs (c == 45) (c == 43) (eqb-true c 45) (eqb-true c 43) h
+
+  in_count : (word : List ℕ) → IsNumeral 10 (without_leading_plus word) → All P word
+  in_count [] h = All-nil P
+  in_count (c ∷ cs) h = after_sign c cs false (c == 43) (λ e. absurd (true≢false (sym e))) (eqb-true c 43) h
+
+-- so what is no text is neither
+pub no_number : (word : List ℕ) → ¬ (IsUtf8 word) → ¬ (IsNumber word)
+no_number word not is = not (IsUtf8-from_ascii word (IsAscii-from_all word (in_number (λ c. c < 128) (omega arith) (omega arith) (λ c range. omega (arith, range)) word is.0)))
+
+pub no_count : (word : List ℕ) → ¬ (IsUtf8 word) → ¬ (IsCount word)
+no_count word not is = not (IsUtf8-from_ascii word (IsAscii-from_all word (in_count (λ c. c < 128) (omega arith) (omega arith) (λ c range. omega (arith, range)) word is.0)))
 
 digit_in_line : (c : ℕ) → IsInRange 48 57 c → (c == 10) ≡ false
 digit_in_line c h = ne_eqb c 10 (λ e. omega (arith, h, e))
@@ -39,10 +45,10 @@ digit_in_word c h =
 -- a word that is a number, and the line feed after it
 module _ (word rest : List ℕ) (is : IsNumber word) where
   pub number_line : lines_of (word ++ 10 ∷ rest) ≡ word ∷ lines_of rest
-  number_line = slice_split_at (λ b. b == 10) word 10 rest (in_number (λ b. b == 10) refl refl digit_in_line word is.0) refl
+  number_line = slice_split_at (λ b. b == 10) word 10 rest (in_number (λ b. (b == 10) ≡ false) refl refl digit_in_line word is.0) refl
 
   pub number_word : slice_split is_blank word ≡ word ∷ []
-  number_word = slice_split_none is_blank word (in_number is_blank refl refl digit_in_word word is.0)
+  number_word = slice_split_none is_blank word (in_number (λ b. is_blank b ≡ false) refl refl digit_in_word word is.0)
 
   some : (w : List ℕ) → IsNumeral 10 (without_leading_sign w) → 0 < length w
   some [] h = absurd (omega (arith, h.0))

@@ -1,14 +1,7 @@
 -- How a script is read, line by line.
-use Rattle.std.proofs.Common.{◌≡◌, ◌+◌, ◌<◌, ◌≤◌, ◌==◌, ℕ, ℤ, suc, zero, Bool, true, false, List, [], ◌∷◌, ◌++◌, length, take, drop, Option, None, Some, IfSome, refl, sym, ap, ◌∙◌, append_assoc, append-nil, arith}
-use Rattle.std.specs.List.{slice_split, onto_first, AllWithin, HoldsAt}
-use Rattle.std.proofs.lemmas.List.Splits.{slice_split-cons_yes, slice_split-cons_no, slice_split_none}
-use Rattle.std.proofs.lemmas.List.Elements.{All-from_all_within}
-use Rattle.std.proofs.Math.Bool.{true≢false}
-use Rattle.dary_heap.specs.Machine.{Command}
-use Rattle.dheap.specs.Script.{Say, CarryOut, CarryOutLine, IsFirstBad, lines_of}
-use Rattle.dheap.specs.declared.serve.fault.Fault.{Fault}
+use Rattle.dheap.proofs.Common.{◌≡◌, ◌+◌, ◌<◌, ◌≤◌, ℕ, ℤ, suc, zero, Bool, true, false, List, [], ◌∷◌, ◌++◌, length, take, drop, Option, None, Some, IfSome, refl, sym, ap, ◌∙◌, append_assoc, append-nil, arith, slice_split, onto_first, AllWithin, HoldsAt, slice_split-cons_yes, slice_split-cons_no, length-slice_split, slice_split_none, All-from_all_within, Command, Say, CarryOut, CarryOutLine, IsFirstBad, lines_of, Fault, Line}
+use Rattle.std.proofs.lemmas.List.Sums.{count_by-le-length}
 use Rattle.dheap.specs.declared.serve.fault.Fault.TheVariants.{BadLine}
-use Rattle.dheap.specs.declared.serve.line.Line.{Line}
 
 module _ {X : Type 0} (p : X → Bool) where
   -- where the first element that passes stands
@@ -36,22 +29,9 @@ module _ {P : Type 0} (means : ℤ → P → Type 0) where
 
 -- a script has no more lines than bytes and one
 pub few_lines : {X : Type 0} (p : X → Bool) (xs : List X) → length (slice_split p xs) ≤ length xs + 1
-few_lines p [] = omega arith
-few_lines p (x ∷ xs) = by (p x) refl (few_lines p xs) where
-  same : {Y : Type 0} (y : Y) (parts : List (List Y)) → length (onto_first y parts) ≤ length parts + 1
-  same y [] = omega arith
-  same y (part ∷ parts) = omega arith
-
-  by : (b : Bool) → p x ≡ b → length (slice_split p xs) ≤ length xs + 1 → length (slice_split p (x ∷ xs)) ≤ length (x ∷ xs) + 1
-  by true e few = omega (arith, ap (λ l. length l) (slice_split-cons_yes p x xs e), few)
-  by false e few = omega (arith, ap (λ l. length l) (slice_split-cons_no p x xs e), few, same x (slice_split p xs))
+few_lines p xs = omega (arith, length-slice_split p xs, count_by-le-length p xs)
 
 -- that some line is the first bad one, without its fault
 pub first_bad : (fault : Fault) (known : Option (List ℕ)) → IfSome known (λ script. (number : ℕ) × (fault ≡ BadLine number) × IsFirstBad (lines_of script) number) → IfSome known (λ script. (number : ℕ) × IsFirstBad (lines_of script) number)
 first_bad fault None h = tt
 first_bad fault (Some script) h = (h.0, h.2)
-
--- what `is_empty` says of a list
-pub is_something : {X : Type 0} (xs : List X) (empty : Bool) → empty ≡ (length xs == 0) → empty ≡ false → 0 < length xs
-is_something [] empty e f = absurd (true≢false (sym e ∙ f))
-is_something (x ∷ xs) empty e f = omega arith

@@ -1,17 +1,11 @@
 -- What a loop over replies has written.
-use Rattle.std.proofs.Common.{◌≡◌, ℕ, ℤ, suc, ◌<◌, ◌+◌, List, [], ◌∷◌, ◌++◌, Option, None, Some, Result, Ok, Err, OnOk, IfErr, All, is_some, true, take, length, get_or, sym, ap, ◌∙◌, subst, append_assoc, append-nil, arith}
-use Rattle.std.specs.List.{AllWithin}
+use Rattle.dheap.proofs.Common.{◌≡◌, ℕ, ℤ, suc, ◌<◌, ◌+◌, List, [], ◌∷◌, ◌++◌, Option, None, Some, Result, Ok, Err, OnOk, IfErr, All, is_some, true, take, length, get_or, sym, ap, ◌∙◌, subst, append_assoc, append-nil, arith, AllWithin, map-append, All-append, All-cons, All-from_all_within, All-map, All-nil, Appends, append_known, answer, line, text, Fault}
 use Rattle.std.proofs.Math.Seq.{take-suc}
-use Rattle.std.proofs.lemmas.List.{map-append}
 use Rattle.std.proofs.lemmas.List.Concat.{flat_map-append}
-use Rattle.std.proofs.lemmas.List.Elements.{All-append, All-cons, All-from_all_within, All-map, All-nil}
-use Rattle.std.specs.Io.KnownBytes.{Appends, append_known}
 use Rattle.dary_heap.specs.Machine as machine
 use Rattle.dary_heap.specs.Reading as read
 use Rattle.dary_heap.specs.declared.run.Reply.{Reply}
-use Rattle.dheap.specs.Answers.{answer, line, text}
 use Rattle.dheap.specs.Faults.{status_of}
-use Rattle.dheap.specs.declared.serve.fault.Fault.{Fault}
 
 abbrev IsAnswered : machine.Reply ℤ → Type 0
 IsAnswered r = is_some (answer r) ≡ true

@@ -99,24 +99,6 @@ fn answer_all<R: Read, W: Write>(
     };
     let mut script = Vec::new(alloc);
     input.read_to_end(&mut script)?;
-    answer_at(alloc, arity, script, output)
-}
-
-/// Runs the commands of a script on a new heap of an arity from 1 to 7, and else of 8, and writes the answers.
-fn answer_at<W: Write>(
-    alloc: Global,
-    arity: u8,
-    script: Vec<u8>,
-    output: &mut W,
-) -> Result<(), Fault>
-    ensures usage { IfErr result (λ fault. status_of fault ≢ 2) }
-    ensures bad { IfErr result (λ fault. status_of fault ≡ 1 → (number : ℕ)
-        × (fault ≡ BadLine number) × IsFirstBad (lines_of script.items) number) }
-    ensures printed { OnOk result ((printed : List ℕ) × MayPrint script.items printed
-        × Appends (W.contents output.old) (W.contents output.new) printed) }
-    ensures silent { IfErr result
-        (λ fault. status_of fault < 3 → Keeps (W.contents output.old) (W.contents output.new)) }
-{
     match arity {
         1 => answer::<W, 1>(alloc, script, output),
         2 => answer::<W, 2>(alloc, script, output),

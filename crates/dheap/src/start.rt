@@ -24,33 +24,20 @@ pub(crate) fn start<V: Env, R: Read, W: Write, E: Write>(
     }
 }
 
-/// The arguments after the program's own name. `std::env::args` would fail as a whole if one isn't
-/// UTF-8.
+/// The arguments after the program's own name. One that isn't UTF-8 or is longer than any arity is an empty
+/// word, where `std::env::args` would fail as a whole.
 fn words<V: Env>(env: &V, alloc: Global) -> Result<Vec<String>, AllocError> {
     let mut words = Vec::new(alloc);
     for place in 1..usize::MAX {
-        match word(env, alloc, place)? {
-            Some(word) => words.push(word)?,
-            None => break,
-        }
-    }
-    Ok(words)
-}
-
-/// The argument at a place, or an empty word if it isn't UTF-8.
-fn word<V: Env>(env: &V, alloc: Global, place: usize) -> Result<Option<String>, AllocError> {
-    let mut room = 256usize;
-    for _ in 0..usize::BITS {
-        let mut bytes = vec![in alloc; 0; room]?;
+        let mut bytes = vec![in alloc; 0; 256]?;
         match env.arg(place, bytes.as_mut_slice()) {
             Ok(len) => {
                 bytes.truncate(len);
-                let word = String::from_utf8(bytes).unwrap_or(String::new(alloc));
-                return Ok(Some(word));
+                words.push(String::from_utf8(bytes).unwrap_or(String::new(alloc)))?;
             }
-            Err(FillError::TooLong) => room = room.saturating_mul(2),
-            Err(FillError::NotPresent) => return Ok(None),
+            Err(FillError::TooLong) => words.push(String::new(alloc))?,
+            Err(FillError::NotPresent) => break,
         }
     }
-    Err(AllocError)
+    Ok(words)
 }

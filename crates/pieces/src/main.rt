@@ -29,11 +29,8 @@ fn main(rt: HostRuntime) -> ExitCode {
 fn table<R: Env + Files + AllocGlobal>(rt: &R) -> Result<Vec<u8>, Fault> {
     let mut words = env::args(rt)?;
     let _ = words.next();
-    let Some(path) = words.next() else {
+    let (Some(path), None) = (words.next(), words.next()) else {
         return Err(Fault::Usage);
     };
-    if words.next().is_some() {
-        return Err(Fault::Usage);
-    }
     Ok(fs::read(rt, path.as_str())?)
 }

@@ -12,10 +12,8 @@ use std::io::{Read, Write};
 const HELD: usize = 1 << 13;
 
 /// Merges the bytes of each word that `input` holds by a table, writes the pieces of each on a line to `output`, and
-/// returns the status that the program ends with.
-///
-/// The status is 0 if all went well. Otherwise a line on `errors` says what was met first: a bad line of the table
-/// (1), memory allocation that failed (3) or a stream that failed (4).
+/// returns the status that the program ends with: 0 if all went well. Otherwise a line on `errors` says what was met
+/// first: a bad line of the table (1), memory allocation that failed (3) or a stream that failed (4).
 pub(crate) fn serve<R: Read, W: Write, E: Write>(
     alloc: Global,
     table: &[u8],
@@ -40,21 +38,10 @@ fn print_all<R: Read, W: Write>(
     let vocabulary = Vocabulary::read(alloc, table)?;
     let mut text = Vec::new(alloc);
     input.read_to_end(&mut text)?;
-    print_words(alloc, &vocabulary, text.as_slice(), output)
-}
-
-/// Writes the pieces of each word of a text on a line.
-fn print_words<W: Write>(
-    alloc: Global,
-    vocabulary: &Vocabulary,
-    text: &[u8],
-    output: &mut W,
-) -> Result<(), Fault> {
     let mut held = Vec::new(alloc);
-    let mut pieces = Vec::new(alloc);
-    let mut rest = text;
+    let mut rest = text.as_slice();
     while let Some((word, after)) = first_word(rest) {
-        put_word(alloc, vocabulary, word, &mut pieces, &mut held)?;
+        put_word(alloc, &vocabulary, word, &mut held)?;
         if held.len() >= HELD {
             pass_on(&mut held, output)?;
         }
@@ -65,19 +52,14 @@ fn print_words<W: Write>(
     Ok(())
 }
 
-/// Adds the pieces of a word, parted by spaces, and a line feed. `pieces` is room for the bytes of the word.
+/// Adds the pieces of a word, parted by spaces, and a line feed.
 fn put_word(
     alloc: Global,
     vocabulary: &Vocabulary,
     word: &[u8],
-    pieces: &mut Vec<u32>,
     held: &mut Vec<u8>,
 ) -> Result<(), AllocError> {
-    pieces.clear();
-    pieces.reserve(word.len())?;
-    for byte in word {
-        pieces.push(u32::from(*byte))?;
-    }
+    let pieces: Vec<u32> = word.iter().map(|byte| u32::from(*byte)).collect(alloc)?;
     let merged = merge_pieces(alloc, pieces.as_slice(), &vocabulary.merges)?;
     for (place, piece) in merged.iter().enumerate() {
         if place > 0 {

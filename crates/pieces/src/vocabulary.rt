@@ -17,24 +17,15 @@ pub(crate) struct Vocabulary {
 
 impl Vocabulary {
     /// Reads a table: a merge a line, two pieces as text, that of the least rank first. A line without words is
-    /// passed over.
-    ///
-    /// # Errors
-    ///
-    /// Returns `BadLine` with the number of the first line that isn't two pieces or whose pair stood before, and
-    /// `NoMemory` if memory allocation fails.
+    /// passed over. Fails with `BadLine` and the number of the first line that isn't two pieces or whose pair stood
+    /// before, and with `NoMemory` if memory allocation fails.
     pub(crate) fn read(alloc: Global, table: &[u8]) -> Result<Vocabulary, Fault> {
         let mut vocabulary = Vocabulary::of_bytes(alloc)?;
-        let mut rest = Some(table);
-        for number in 1..u64::MAX {
-            let Some(text) = rest else {
-                break;
-            };
-            let (line, after) = first_line(text);
+        let lines = table.split(|byte| *byte == b'\n');
+        for (number, line) in (1..u64::MAX).zip(lines) {
             if !vocabulary.add_line(alloc, line)? {
                 return Err(Fault::BadLine(number));
             }
-            rest = after;
         }
         Ok(vocabulary)
     }
@@ -59,13 +50,10 @@ impl Vocabulary {
         let Some((left, rest)) = first_word(line) else {
             return Ok(true);
         };
-        let Some((right, rest)) = first_word(rest) else {
-            return Ok(false);
-        };
-        if first_word(rest).is_some() {
-            return Ok(false);
+        match first_word(rest) {
+            Some((right, rest)) if first_word(rest).is_none() => self.add_merge(alloc, left, right),
+            _ => Ok(false),
         }
-        self.add_merge(alloc, left, right)
     }
 
     /// Adds the merge of two pieces, with the next rank. Returns whether both are pieces and had no merge.
@@ -110,14 +98,6 @@ impl Vocabulary {
             Some(text) => held.extend_from_slice(text.as_slice()),
             None => Ok(()),
         }
-    }
-}
-
-/// The first line, and what comes after its line feed.
-fn first_line(text: &[u8]) -> (&[u8], Option<&[u8]>) {
-    match text.iter().position(|byte| *byte == b'\n') {
-        Some(place) => (&text[..place], Some(&text[place + 1..])),
-        None => (text, None),
     }
 }
 

@@ -3,21 +3,13 @@
 --     Whole, Hollow, row_of     the types of the two, and what both own
 --     size_fits, offset_fits     an offset into a row does not overflow
 --     row_out, row_found, row_in     a row is taken from its two words, at a block or at any pointer, and put back
---     hollow_opened, hollow_closed     a `&mut Hole` is opened and closed
---     lent_as_row, row_back     a `&mut [T]` is opened as a `Places`, and closed at the one that comes back
-use Rattle.dary_heap.proofs.hole.Walks.{ℕ, ◌*◌, ◌<◌, ◌^◌, Bool, true, false, List, [], ◌∷◌, ◌≡◌, refl, sym, ap, subst, ◌∙◌, arith, length, get_or, set, length-set, length-replicate, get_or-replicate, Ura, Fml, Lft, GName, Share, fsep, flft, fobs, fauth, fbor, fobor, full_share, ent, never, w64, Val, WT, vint, vstruct, vcons, vnil, Goal, Soaks, Step, step, Seq, Item, ‵, ◌$◌, ◌∵◌, !, qed, drop, move, use1, fsplit, fjoin, flt_l, flt_i, rewrite, done, Logic, sem, Is, Tells, shows, cell_at, mem, uint_vals, uint_Tells, RattleType, Ptr, block_ptr, null_ptr, ptr_val, in_a_block, rawptr_vals, rawptr_Tells, pure_i, Room, coded_holeys, heres, facts, opens, closes, RawPtr-laws, usize-laws, shape, Struct, Struct-Tells, ◌≢◌, El, R, el_x, times_below, one_below, sz, of_row, to_row, owned, slots}
+use Rattle.dary_heap.proofs.hole.Walks.{ℕ, ◌*◌, ◌<◌, ◌^◌, Bool, true, false, List, [], ◌∷◌, ◌≡◌, refl, sym, ap, ◌∙◌, arith, length, get_or, set, length-set, length-replicate, get_or-replicate, Ura, Fml, fsep, ent, never, w64, Val, WT, vint, vstruct, vcons, vnil, Goal, Step, step, Seq, Item, ‵, ◌$◌, ◌∵◌, !, qed, drop, fsplit, fjoin, flt_l, flt_i, done, Logic, sem, Is, Tells, shows, uint_vals, uint_Tells, RattleType, Ptr, block_ptr, null_ptr, ptr_val, in_a_block, rawptr_vals, rawptr_Tells, pure_i, Room, facts, RawPtr-laws, usize-laws, shape, Struct, Struct-Tells, ◌≢◌, El, R, el_x, times_below, one_below, sz, owned, slots}
 use lib.Seq.{set-set, set_comm, set-get_or, get_or-set_other}
-use base.Stored.{Gv}
-use types.SemTy.{Body}
-use denote.Index.{row, opens_slice, closes_slice}
-use denote.Lend.{Held}
 use denote.Struct.OwningLaws.{Tells-lowered}
-use Rattle.dary_heap.specs.Hole.{IsSameSlice}
 use Rattle.dary_heap.specs.Places.{all_filled, filled_but}
+use Rattle.dary_heap.specs.declared.hole.places.Places.{Places}
 use Rattle.dary_heap.specs.contracts.hole.places.Hole as O
 use Rattle.dary_heap.specs.contracts.hole.places.Places as P
-use Rattle.dary_heap.specs.declared.hole.places.Hole.{Hole}
-use Rattle.dary_heap.specs.declared.hole.places.Places.{Places}
 
 -- a pointer and a length
 abbrev pub two_words : Ptr → ℕ → Val
@@ -92,39 +84,3 @@ module _ (E : El) {M : Type 1} {𝓤 : Ura M} {𝓛 : Logic 𝓤} {K : Type 0} {
   row_in t b o n xs fs room = step (λ s. flt_i t _ _ room.1 $ fjoin t $
       pure_i t ((Pair E).own_val (block_ptr b o, (n, tt)) (words (block_ptr b o) n)) (λ vss. (tt, (tt, ((tt, tt), tt))))
       ((rawptr_vals (block_ptr b o), (uint_vals w64 n, tt)), (refl, (refl, ((refl, room.0), tt)))) $ fjoin t $ s)
-
-module _ (E : El) {M : Type 1} {𝓤 : Ura M} {𝓛 : Logic 𝓤} {K : Type 0} {Γ : List (Item 𝓤)} {G : Goal 𝓤 𝓛.H} where
-  -- a `&mut` to an `Hole`: the row, its two words, and the open borrow in three entries
-  pub hollow_opened : K → Soaks G → {κ : Lft} {q : Share} {γ : GName} (h : Hole (el_x E)) (rb ro : ℕ)
-      → ((b o : ℕ) → h.ptr ≡ block_ptr b o → Room (R E) h.len
-      → Seq K 𝓛 (‵ (slots (R E) (block_ptr b o) h.items (filled_but h.len h.at)) ∷ ‵ (cell_at full_share (Hollow E).mir (words (block_ptr b o) h.len) rb ro) ∷ ‵ (fobor κ q (Body (mem (Hollow E)) rb ro γ)) ∷ ‵ (fobs γ ((Hollow E).coded.code h)) ∷ ‵ (fauth γ ((Hollow E).coded.code h)) ∷ Γ) G)
-      → Seq K 𝓛 (‵ (fobs γ ((Hollow E).coded.code h)) ∷ ‵ (fbor κ (Body (mem (Hollow E)) rb ro γ)) ∷ ‵ (flft κ q) ∷ Γ) G
-  hollow_opened t z h rb ro k =
-      opens t z (Hollow E) {h = h} rb ro (λ us. move t (1 ∷ []) $ row_found E t h.ptr h.len h.items (filled_but h.len h.at) us (λ b o at is room.
-      rewrite t 1 (λ (ws : List Val). ‵ (cell_at full_share (Hollow E).mir ws rb ro)) is refl $ k b o at room))
-
-  pub hollow_closed : K → Soaks G → {κ : Lft} {q : Share} {u v : Gv} {γ : GName} (h : Hole (el_x E)) (b o rb ro : ℕ) → block_ptr b o ≡ h.ptr → Room (R E) h.len
-      → Step K 𝓛 (‵ (fobs γ ((Hollow E).coded.code h)) ∷ ‵ (fbor κ (Body (mem (Hollow E)) rb ro γ)) ∷ ‵ (flft κ q) ∷ Γ) G
-      (‵ (slots (R E) (block_ptr b o) h.items (filled_but h.len h.at)) ∷ ‵ (cell_at full_share (Hollow E).mir (words (block_ptr b o) h.len) rb ro) ∷ ‵ (fobor κ q (Body (mem (Hollow E)) rb ro γ)) ∷ ‵ (fobs γ u) ∷ ‵ (fauth γ v) ∷ Γ) G
-  hollow_closed t z h b o rb ro is room = step (λ s. row_in E t b o h.len h.items (filled_but h.len h.at) room $
-      rewrite t 0 (λ (p : Ptr). ‵ (row_of E p h.len h.items (filled_but h.len h.at) (words (block_ptr b o) h.len))) is refl $
-      move t (1 ∷ 0 ∷ []) $ closes t z (Hollow E) h (words (block_ptr b o) h.len) rb ro $ s)
-
-  pub lent_as_row : K → Soaks G → (b o : ℕ) (xs : List (el_x E)) (room : Room (R E) (length xs)) {κ : Lft} {q : Share} {γ : GName}
-      → Step K 𝓛 (‵ ((Whole E).own_val (full_row E b o xs room) (words (block_ptr b o) (length xs))) ∷ ‵ (fobor κ q (Held (R E) (length xs) b o γ)) ∷ ‵ (fobs γ ((coded_holeys (R E)).code (heres (R E) xs))) ∷ ‵ (fauth γ ((coded_holeys (R E)).code (heres (R E) xs))) ∷ Γ) G
-      (‵ (fobs γ ((coded_holeys (R E)).code (heres (R E) xs))) ∷ ‵ (fbor κ (Held (R E) (length xs) b o γ)) ∷ ‵ (flft κ q) ∷ Γ) G
-  lent_as_row t z b o xs room = step (λ s. opens_slice t z (R E) xs b o $
-      use1 𝓛 (‵ (slots (R E) (block_ptr b o) xs (all_filled (length xs)))) (of_row E 𝓛 b xs o) $ row_in E t b o (length xs) xs (all_filled (length xs)) room $ s)
-
-  pub row_back : K → Soaks G → (b o : ℕ) (xs : List (el_x E)) (room : Room (R E) (length xs)) {κ : Lft} {q : Share} {γ : GName} (back : Places (el_x E)) (vs : List Val)
-      → IsSameSlice (full_row E b o xs room) back
-      → (vs ≡ words (block_ptr b o) back.len → back.len < 2 ^ 64
-      → Seq K 𝓛 (‵ (fobs γ ((coded_holeys (R E)).code (heres (R E) back.items))) ∷ ‵ (fbor κ (Held (R E) (length back.items) b o γ)) ∷ ‵ (flft κ q) ∷ Γ) G)
-      → Seq K 𝓛 (‵ ((Whole E).own_val back vs) ∷ ‵ (fobor κ q (Held (R E) (length xs) b o γ)) ∷ ‵ (fobs γ ((coded_holeys (R E)).code (heres (R E) xs))) ∷ ‵ (fauth γ ((coded_holeys (R E)).code (heres (R E) xs))) ∷ Γ) G
-  row_back t z b o xs room back vs same k =
-      let n : ℕ = back.len in let fs : List Bool = all_filled n in
-      let many : length fs ≡ n = length-replicate n true in
-      rewrite t 0 (λ (p : Ptr). ‵ (row_of E p n back.items fs vs)) same.slice refl $ row_out E t b o n back.items fs vs (λ is room'.
-      use1 𝓛 (‵ (row (R E) full_share back.items b o)) (to_row E 𝓛 b back.items fs o (many ∙ back.ok)
-      (λ i below. get_or-replicate n i true _ (subst (λ (m : ℕ). i < m) many below))) $
-      closes_slice t z (R E) xs back.items same.len b o $ k is room'.0)

@@ -1,7 +1,5 @@
 -- The items of a heap whose first is on loan, and what sifting it down tells of them.
-use Rattle.dary_heap.proofs.Common.{◌≡◌, ◌↔◌, ℕ, zero, suc, ◌+◌, ◌-◌, ◌*◌, ◌<◌, ◌≤◌, Bool, true, false, List, [], ◌∷◌, length, refl, sym, ap, ◌∙◌, subst, arith, Some, IsTrue, slice_get, Contains, Contains-append_right, slice_get_within, get_or_from_slice_get, OnFalse, IsTotalOrder, Ordering, RisesWithin, sink_bound, arity, depth, IsHeapOrdered, HasGreaterChild, IsExceeded}
-use Rattle.dary_heap.proofs.Depth.{depth-zero}
-use Rattle.dary_heap.proofs.Order.{first_is_greatest}
+use Rattle.dary_heap.proofs.{◌≡◌, ◌↔◌, ℕ, zero, suc, ◌+◌, ◌-◌, ◌*◌, ◌<◌, ◌≤◌, Bool, true, false, List, [], ◌∷◌, length, refl, sym, ap, ◌∙◌, subst, arith, Some, IsTrue, slice_get, Contains, Contains-append_right, slice_get_within, get_or_from_slice_get, OnFalse, IsTotalOrder, Ordering, RisesWithin, sink_bound, arity, depth, IsHeapOrdered, HasGreaterChild, IsExceeded, depth-zero, first_is_greatest}
 
 -- sifting down one item alone compares nothing
 pub lone_uncounted : (D n a b : ℕ) → n ≡ 1 → RisesWithin a b (sink_bound D n) → b ≡ a
@@ -37,17 +35,10 @@ module _ {X : Type 0} {cmp : X → X → Ordering} (D : ℕ) where
       first.none_above over.0 (Contains-append_right (held ∷ []) rest over.0 over.1) over.2
 
   -- the first item was sifted down, and answered whether it moved
-  module _ (xs new : List X) (moved : Bool) (says : IsTrue moved ↔ HasGreaterChild cmp D 0 xs) (still : OnFalse moved (new ≡ xs)) where
-    pub sunk_unmoved : (IsExceeded cmp xs → ⊥) → new ≡ xs
-    sunk_unmoved none = stays moved says still
-      where
-        stays : (m : Bool) → (IsTrue m ↔ HasGreaterChild cmp D 0 xs) → OnFalse m (new ≡ xs) → new ≡ xs
-        stays true says still = absurd (none (exceeds xs (says.0 refl)))
-        stays false says still = still
+  pub sunk_unmoved : (xs new : List X) (moved : Bool) → (IsTrue moved ↔ HasGreaterChild cmp D 0 xs) → OnFalse moved (new ≡ xs) → (IsExceeded cmp xs → ⊥) → new ≡ xs
+  sunk_unmoved xs new true says still none = absurd (none (exceeds xs (says.0 refl)))
+  sunk_unmoved xs new false says still none = still
 
-    pub sunk_moved : IsTotalOrder cmp → IsHeapOrdered cmp D new → IsTrue moved ↔ IsExceeded cmp xs
-    sunk_moved total ordered = tells moved says still
-      where
-        tells : (m : Bool) → (IsTrue m ↔ HasGreaterChild cmp D 0 xs) → OnFalse m (new ≡ xs) → IsTrue m ↔ IsExceeded cmp xs
-        tells true says still = (λ m. exceeds xs (says.0 m), λ over. refl)
-        tells false says still = (λ m. exceeds xs (says.0 m), λ over. absurd (none_exceeds total xs (subst (IsHeapOrdered cmp D) still ordered) over))
+  pub sunk_moved : IsTotalOrder cmp → (xs new : List X) (moved : Bool) → (IsTrue moved ↔ HasGreaterChild cmp D 0 xs) → OnFalse moved (new ≡ xs) → IsHeapOrdered cmp D new → IsTrue moved ↔ IsExceeded cmp xs
+  sunk_moved total xs new true says still ordered = (λ m. exceeds xs (says.0 m), λ over. refl)
+  sunk_moved total xs new false says still ordered = (λ m. exceeds xs (says.0 m), λ over. absurd (none_exceeds total xs (subst (IsHeapOrdered cmp D) still ordered) over))

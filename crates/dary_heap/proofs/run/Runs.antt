@@ -1,35 +1,26 @@
--- A run goes on by one command.
-use Rattle.dary_heap.proofs.Common.{◌≡◌, ℕ, ◌+◌, ◌≤◌, Bool, List, [], ◌∷◌, ◌++◌, length, refl, ap, arith, Ordering, charge, Contents, Command, Reply, Step, Steps, last_state, IsState, IsServed, Runs, Serves, room, sure_after}
+-- A run goes on by one command, which asks of the caller and brings in what all commands do.
+use Rattle.dary_heap.proofs.Common.{◌≡◌, ℕ, ◌+◌, ◌≤◌, Bool, List, [], ◌∷◌, ◌++◌, length, refl, ap, arith, Ordering, charge, Contents, Command, Reply, Step, Steps, last_state, IsState, IsServed, Runs, Serves, room, sure_after, All, Contains, sym, subst, append_assoc, All-contains, All-contains_itself, All-weaker, Contains-append_left, Contains-append_right, Mut, Bor, IsCallableOn, items_in, predicates_in}
 use Rattle.dary_heap.specs.Bounds.{charges}
-use Rattle.dary_heap.specs.Machine as machine
 use Rattle.dary_heap.specs.Run.{PushesServed, sure_at_end}
+use Rattle.dary_heap.specs.Machine as machine
 
-last_state-more : {T : Type 0} (old new : List T) (states : List (List T)) → last_state old (states ++ new ∷ []) ≡ new
-last_state-more old new [] = refl
-last_state-more old new (state ∷ states) = last_state-more state new states
-
-module _ {T P : Type 0} (cmp : T → T → Ordering) (calls : P → T → Bool → P → Type 0) where
-  Run-more : (old new : List T) (commands : List (Command T P)) (replies : List (Reply T)) (states : List (List T)) (command : Command T P) (reply : Reply T) → Steps cmp calls old commands replies states → Step cmp calls (last_state old states) command reply new → Steps cmp calls old (commands ++ command ∷ []) (replies ++ reply ∷ []) (states ++ new ∷ [])
-  Run-more old new [] [] [] command reply run step = (step, tt)
-  Run-more old new (c ∷ commands) (r ∷ replies) (state ∷ states) command reply run step = (run.0, Run-more state new commands replies states command reply run.1 step)
-  Run-more old new commands replies states command reply run step = absurd run
-
-  charges-more : (D : ℕ) (old new : List T) (commands : List (Command T P)) (replies : List (Reply T)) (states : List (List T)) (command : Command T P) (reply : Reply T) → Steps cmp calls old commands replies states → charges D old (commands ++ command ∷ []) (replies ++ reply ∷ []) (states ++ new ∷ []) ≡ charges D old commands replies states + charge D (length (last_state old states)) command reply (length new)
-  charges-more D old new [] [] [] command reply run = omega arith
-  charges-more D old new (c ∷ commands) (r ∷ replies) (state ∷ states) command reply run = omega (arith, charges-more D state new commands replies states command reply run.1)
-  charges-more D old new commands replies states command reply run = absurd run
+-- a run with one step more: the step, its state, its charge, and whether a push that is sure is served
+module _ {T P : Type 0} (cmp : T → T → Ordering) (calls : P → T → Bool → P → Type 0) (D : ℕ) where
+  more : (sure : ℕ) (old new : List T) (commands : List (Command T P)) (replies : List (Reply T)) (states : List (List T)) (command : Command T P) (reply : Reply T)
+      → Steps cmp calls old commands replies states
+      → Step cmp calls (last_state old states) command reply new
+      → Steps cmp calls old (commands ++ command ∷ []) (replies ++ reply ∷ []) (states ++ new ∷ [])
+      × (last_state old (states ++ new ∷ []) ≡ new)
+      × (charges D old (commands ++ command ∷ []) (replies ++ reply ∷ []) (states ++ new ∷ []) ≡ charges D old commands replies states + charge D (length (last_state old states)) command reply (length new))
+      × (PushesServed sure commands replies → IsServed (sure_at_end sure commands replies) command reply → PushesServed sure (commands ++ command ∷ []) (replies ++ reply ∷ []))
+      × (sure_at_end sure (commands ++ command ∷ []) (replies ++ reply ∷ []) ≡ sure_after (sure_at_end sure commands replies) command reply)
+  more sure old new [] [] [] command reply run step = ((step, tt), refl, omega arith, (λ served one. (one, tt)), refl)
+  more sure old new (c ∷ commands) (r ∷ replies) (state ∷ states) command reply run step =
+      let h = more (sure_after sure c r) state new commands replies states command reply run.1 step in
+      ((run.0, h.0), h.1, omega (arith, h.2), (λ served one. (served.0, h.3 served.1 one)), h.4)
+  more sure old new commands replies states command reply run step = absurd run
 
 module _ {T P : Type 0} where
-  PushesServed-more : (sure : ℕ) (commands : List (Command T P)) (replies : List (Reply T)) (command : Command T P) (reply : Reply T) → length commands ≡ length replies → PushesServed sure commands replies → IsServed (sure_at_end sure commands replies) command reply → PushesServed sure (commands ++ command ∷ []) (replies ++ reply ∷ [])
-  PushesServed-more sure [] [] command reply long served one = (one, tt)
-  PushesServed-more sure (c ∷ commands) (r ∷ replies) command reply long served one = (served.0, PushesServed-more (sure_after sure c r) commands replies command reply (omega arith) served.1 one)
-  PushesServed-more sure commands replies command reply long served one = absurd (omega arith)
-
-  sure_at_end-more : (sure : ℕ) (commands : List (Command T P)) (replies : List (Reply T)) (command : Command T P) (reply : Reply T) → length commands ≡ length replies → sure_at_end sure (commands ++ command ∷ []) (replies ++ reply ∷ []) ≡ sure_after (sure_at_end sure commands replies) command reply
-  sure_at_end-more sure [] [] command reply long = refl
-  sure_at_end-more sure (c ∷ commands) (r ∷ replies) command reply long = sure_at_end-more (sure_after sure c r) commands replies command reply (omega arith)
-  sure_at_end-more sure commands replies command reply long = absurd (omega arith)
-
   -- fewer pushes that are sure ask for less
   IsServed-fewer : (few many : ℕ) (command : Command T P) (reply : Reply T) → few ≤ many → IsServed many command reply → IsServed few command reply
   IsServed-fewer few many (machine.Push x) reply h served = λ some. served (omega arith)
@@ -45,16 +36,48 @@ module _ {T P : Type 0} {cmp : T → T → Ordering} {calls : P → T → Bool �
   pub Runs-begins : (heap : Contents T) → IsState cmp heap.items → Runs cmp calls D heap [] [] heap
   Runs-begins heap state = record { states = []; begins = state; run = tt; ends = refl; charged = record { rises = omega arith; within = omega arith }; served = tt; sure = omega arith }
 
-  pub Runs-more : (old mid new : Contents T) (commands : List (Command T P)) (replies : List (Reply T)) (command : Command T P) (reply : Reply T) → length commands ≡ length replies → Runs cmp calls D old commands replies mid → Serves cmp calls D mid command reply new → Runs cmp calls D old (commands ++ command ∷ []) (replies ++ reply ∷ []) new
-  Runs-more old mid new commands replies command reply long runs serves =
-      let costs = charges-more cmp calls D old.items new.items commands replies runs.states command reply runs.run in
+  pub Runs-more : {old mid new : Contents T} {commands : List (Command T P)} {replies : List (Reply T)} {command : Command T P} {reply : Reply T} → Runs cmp calls D old commands replies mid → Serves cmp calls D mid command reply new → Runs cmp calls D old (commands ++ command ∷ []) (replies ++ reply ∷ []) new
+  Runs-more {old} {new = new} {commands} {replies} {command} {reply} runs serves =
+      let h = more cmp calls D (room old) old.items new.items commands replies runs.states command reply runs.run (rw runs.ends serves.step) in
       let last = ap (λ xs. charge D (length xs) command reply (length new.items)) runs.ends in
       record {
         states = runs.states ++ new.items ∷ [];
         begins = runs.begins;
-        run = Run-more cmp calls old.items new.items commands replies runs.states command reply runs.run (rw runs.ends serves.step);
-        ends = last_state-more old.items new.items runs.states;
-        charged = record { rises = omega arith; within = omega (arith, costs, last) };
-        served = PushesServed-more (room old) commands replies command reply long runs.served (IsServed-fewer _ _ command reply runs.sure serves.served);
-        sure = omega (arith, sure_at_end-more (room old) commands replies command reply long, sure_after-fewer _ _ command reply runs.sure, serves.sure);
+        run = h.0;
+        ends = h.1;
+        charged = record { rises = omega (arith, runs.charged.rises, serves.charged.rises); within = omega (arith, h.2, last, runs.charged.within, serves.charged.within) };
+        served = h.3 runs.served (IsServed-fewer _ _ command reply runs.sure serves.served);
+        sure = omega (arith, h.4, sure_after-fewer _ _ command reply runs.sure, serves.sure);
       }
+
+-- what one of many gives is among what all give
+of_one : {A B : Type 0} (f : List A → List B) (joins : (xs ys : List A) → f (xs ++ ys) ≡ f xs ++ f ys) (before : List A) (one : A) (after : List A) (x : B) → Contains (f (one ∷ [])) x → Contains (f (before ++ (one ∷ after))) x
+of_one f joins before one after x in' =
+    let first = subst (λ xs. Contains xs x) (sym (joins (one ∷ []) after)) (Contains-append_left (f (one ∷ [])) (f after) x in') in
+    subst (λ xs. Contains xs x) (sym (joins before (one ∷ after))) (Contains-append_right (f before) _ x first)
+
+module _ {T P : Type 0} where
+  items_in-append : (xs ys : List (Command T P)) → items_in (xs ++ ys) ≡ items_in xs ++ items_in ys
+  items_in-append [] ys = refl
+  items_in-append (machine.Push x ∷ xs) ys = ap (λ zs. x ∷ zs) (items_in-append xs ys)
+  items_in-append (command ∷ xs) ys = simp (items_in-append xs ys, append_assoc)
+
+  predicates_in-append : (xs ys : List (Command T P)) → predicates_in (xs ++ ys) ≡ predicates_in xs ++ predicates_in ys
+  predicates_in-append [] ys = refl
+  predicates_in-append (machine.Ask p ∷ xs) ys = ap (λ zs. p ∷ zs) (predicates_in-append xs ys)
+  predicates_in-append (command ∷ xs) ys = simp (predicates_in-append xs ys)
+
+  -- the items of one command are among those of all
+  pub items_of_one : (before : List (Command T P)) (command : Command T P) (after : List (Command T P)) (x : T) → Contains (items_in (command ∷ [])) x → Contains (items_in (before ++ (command ∷ after))) x
+  items_of_one before command after x in' = of_one items_in items_in-append before command after x in'
+
+  module _ (calls : Mut P (Bor T × Unit {0}) Bool) where
+    pub IsCallableOn-fewer : (pool items : List T) (p : P) → ((x : T) → Contains items x → Contains pool x) → IsCallableOn calls pool p → IsCallableOn calls items p
+    IsCallableOn-fewer pool items p among h = record { in_turn = λ xs in'. h.in_turn xs (λ x here. among x (in' x here)) }
+
+    -- the predicates of one command may be called where those of all may be
+    pub callable_one : (pool items : List T) (before : List (Command T P)) (command : Command T P) (after : List (Command T P)) → ((x : T) → Contains items x → Contains pool x) → All (IsCallableOn calls pool) (predicates_in (before ++ (command ∷ after))) → All (IsCallableOn calls items) (predicates_in (command ∷ []))
+    callable_one pool items before command after among h =
+        let wanted = predicates_in (command ∷ []) in
+        let callable = λ (p : P) (in' : Contains wanted p). IsCallableOn-fewer pool items p among (All-contains (IsCallableOn calls pool) _ p h (of_one predicates_in predicates_in-append before command after p in')) in
+        All-weaker (Contains wanted) (IsCallableOn calls items) callable wanted (All-contains_itself wanted)

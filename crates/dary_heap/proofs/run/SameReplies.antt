@@ -1,31 +1,27 @@
 -- Without ties, questions and refusals, two runs from the same bag give the same replies and leave the same bag: their states are the same ones, and so both may be read from the first.
-use Rattle.dary_heap.proofs.Common.{◌≡◌, ◌≢◌, ℕ, zero, suc, Bool, true, false, List, [], ◌∷◌, ◌++◌, length, refl, sym, ap, ◌∙◌, subst, arith, rules, inl, inr, Option, Some, None, Contains, AllByRecursion, IsTotalOrder, ordering_reverse, Ordering, Less, Equal, Greater, Contains-append_left, Contains-append_right, Contains-append_cases, IsPermutation-refl, IsPermutation-sym, IsPermutation-trans, IsPermutation-cons, Contains-permutation, length_permutation, items_in, written, IsSameBag, IsGreatest, IsGreatest-same_bag, Act, Write, Refresh, End, PutBack, TakeOut, Seen, Old, Changed, Command, Reply, Push, Pop, PopIf, Ask, Len, Retain, Extend, Append, Reserve, Shrink, Clear, Drain, DrainSorted, Loan, Pushed, PushRefused, Popped, Size, Done, ExtendRefused, Refused, Taken, Loaned, Acts, Ends, Pops, PopsInTurn, Step, Steps, last_state, Contents, Runs, IsState, IsSameState, front}
+use Rattle.dary_heap.proofs.Common.{◌≡◌, ◌≢◌, ℕ, zero, suc, Bool, true, false, List, [], ◌∷◌, ◌++◌, refl, sym, ap, ◌∙◌, subst, arith, rules, Option, Some, None, AllByRecursion, IsTotalOrder, Ordering, Equal, Greater, Contains-append_left, Contains-append_right, IsPermutation-refl, IsPermutation-sym, IsPermutation-trans, IsPermutation-cons, length_permutation, items_in, written, IsSameBag, IsGreatest, IsGreatest-same_bag, Act, Write, Refresh, End, PutBack, TakeOut, Seen, Old, Changed, Command, Reply, Push, Pop, Len, Extend, Append, Reserve, Shrink, Clear, DrainSorted, Loan, Pushed, Popped, Size, Done, Taken, Loaned, Acts, Ends, Pops, PopsInTurn, Step, Steps, last_state, Contents, Runs, IsState, IsSameState, front}
 use Rattle.dary_heap.specs.TwoArities.{HasNoTies, IsSettled, IsUnrefused, RunsUnrefused, SameRepliesAtTwoArities}
-use Rattle.dary_heap.proofs.Bags.{Contains-first, IsAmong, IsAmong-cons, IsAmong-tail, IsAmong-append, IsAmong-same}
+use Rattle.dary_heap.proofs.Bags.{holds_none, Contains-first, IsAmong, IsAmong-cons, IsAmong-tail, IsAmong-append, IsAmong-same}
 use Rattle.dary_heap.proofs.Cancelling.{IsPermutation-uncons}
 use Rattle.dary_heap.proofs.Fronts.{same_state}
-use Rattle.dary_heap.proofs.run.SameStates.{Step-same_state, in_turn, turned}
+use Rattle.dary_heap.proofs.run.SameStates.{Step-same_state, in_turn, turned, Step-state}
 use Rattle.dary_heap.proofs.run.ServingLoan.{Acts-among, Acts-from}
-use Rattle.dary_heap.proofs.run.States.{Step-state}
 
 module _ {X P : Type 0} {cmp : X → X → Ordering} (calls : P → X → Bool → P → Type 0) (total : IsTotalOrder cmp) (values : List X) (untied : HasNoTies cmp values) where
-  tied : (r : Ordering) (x y : X) → cmp x y ≡ r → r ≢ Greater → cmp y x ≢ Greater → r ≡ Equal
-  tied Less x y e h k = absurd (k (total.antisymm y x ∙ ap ordering_reverse e))
-  tied Equal x y e h k = refl
-  tied Greater x y e h k = absurd (h refl)
+  tied : (x y : X) → cmp x y ≢ Greater → cmp y x ≢ Greater → cmp x y ≡ Equal
+  tied x y h k = let turned = total.antisymm y x in grind arith
 
   -- without ties a bag has one greatest value
   one_greatest : (xs : List X) (x y : X) → IsAmong values xs → IsGreatest cmp xs x → IsGreatest cmp xs y → x ≡ y
-  one_greatest xs x y among h k = untied.alike x y (among x h.occurs) (among y k.occurs) (tied (cmp x y) x y refl (k.none_above x h.occurs) (h.none_above y k.occurs))
+  one_greatest xs x y among h k = untied.alike x y (among x h.occurs) (among y k.occurs) (tied x y (k.none_above x h.occurs) (h.none_above y k.occurs))
 
   -- and so one front
   one_state : (xs ys : List X) → IsSameBag xs ys → IsAmong values xs → IsState cmp xs → IsState cmp ys → IsSameState xs ys
   one_state [] [] same among h k = record { bag = same; first = refl }
-  one_state [] (y ∷ ys) same among h k = absurd (omega (arith, length_permutation _ _ same))
-  one_state (x ∷ xs) [] same among h k = absurd (omega (arith, length_permutation _ _ same))
   one_state (x ∷ xs) (y ∷ ys) same among h k =
       let greatest = IsGreatest-same_bag (y ∷ ys) (x ∷ xs) y (IsPermutation-sym _ _ same) (k.greatest y refl) in
       record { bag = same; first = ap Some (one_greatest (x ∷ xs) y x among greatest (h.greatest x refl)) }
+  one_state xs ys same among h k = absurd (omega (arith, length_permutation _ _ same))
 
   one_front : (old : List X) (x y : X) → front old ≡ Some x → front old ≡ Some y → x ≡ y
   one_front old x y h k = let same : Some x ≡ Some y = sym h ∙ k in cc
@@ -49,9 +45,7 @@ module _ {X P : Type 0} {cmp : X → X → Ordering} (calls : P → X → Bool �
   listed bag reply reply' new new' same among h k = record { replies = same; bag = same_bag bag new new' h k; among = IsAmong-same values bag new h among }
 
   emptied : (reply reply' : Reply X) (new new' : List X) → reply ≡ reply' → new ≡ [] → new' ≡ [] → StepsAlike reply reply' new new'
-  emptied reply reply' new new' same h k =
-      let none = IsPermutation-refl [] in
-      listed [] reply reply' new new' same (λ y in'. absurd (omega (arith, in'.1))) (subst (IsSameBag []) (sym h) none) (subst (IsSameBag []) (sym k) none)
+  emptied reply reply' new new' same h k = rw (h, k) (record { replies = same; bag = IsPermutation-refl []; among = λ y in'. absurd (holds_none y in') })
 
   popped : (old : List X) (x y : X) (new new' : List X) → IsAmong values old → Pops cmp old x new → Pops cmp old y new' → StepsAlike (Popped (Some x)) (Popped (Some y)) new new'
   popped old x y new new' among h k =
@@ -66,7 +60,7 @@ module _ {X P : Type 0} {cmp : X → X → Ordering} (calls : P → X → Bool �
   popped_in_turn old (suc n) (x ∷ taken) (y ∷ taken') among h k =
       let both = popped old x y h.0 k.0 among h.1 k.1 in
       let state = one_state h.0 k.0 both.bag both.among h.1.2 k.1.2 in
-      let more = popped_in_turn h.0 n taken taken' both.among h.2 (in_turn cmp calls k.0 h.0 n taken' (turned h.0 k.0 state) k.2) in
+      let more = popped_in_turn h.0 n taken taken' both.among h.2 (in_turn cmp calls k.0 h.0 [] [] (turned h.0 k.0 state) (same_state _ _ refl) n taken' k.2) in
       let first = one_front old x y h.1.0 k.1.0 in
       cc
 
@@ -81,7 +75,7 @@ module _ {X P : Type 0} {cmp : X → X → Ordering} (calls : P → X → Bool �
   acted held rest (Write x ∷ acts) (Old y ∷ seen) (Old y' ∷ seen') last last' left left' among wrote h k =
       let now = IsAmong-cons values x rest (wrote x (Contains-first x (written acts))) (IsAmong-tail values held rest among) in
       let more = acted x rest acts seen seen' last last' left left' now (IsAmong-tail values x (written acts) wrote) h.1 k.1 in
-      record { told = ap (λ v. Old v ∷ seen) (h.0 ∙ sym k.0) ∙ ap (λ s. Old y' ∷ s) more.told; held = more.held; rest = more.rest }
+      record { told = cc (h.0, k.0, more.told); held = more.held; rest = more.rest }
   acted held rest (Refresh ∷ acts) (Changed true ∷ seen) (Changed true ∷ seen') last last' left left' among wrote h k =
       let next = one_greatest (held ∷ rest) h.1.0 k.1.0 among h.1.2 k.1.2 in
       let others = same_rest (held ∷ rest) h.1.1 k.1.1 h.1.0 k.1.0 next h.1.3 k.1.3 in
@@ -145,7 +139,7 @@ module _ {X P : Type 0} {cmp : X → X → Ordering} (calls : P → X → Bool �
   runs_alike : (commands : List (Command X P)) (old old' : List X) (replies replies' : List (Reply X)) (states states' : List (List X)) → AllByRecursion IsSettled commands → IsAmong values (items_in commands) → IsAmong values old → IsState cmp old → IsSameState old old' → AllByRecursion IsUnrefused replies → AllByRecursion IsUnrefused replies' → Steps cmp calls old commands replies states → Steps cmp calls old' commands replies' states' → (replies ≡ replies') × IsSameBag (last_state old states) (last_state old' states')
   runs_alike [] old old' [] [] [] [] settled brought among begun from fine fine' run run' = (refl, from.bag)
   runs_alike (command ∷ commands) old old' (reply ∷ replies) (reply' ∷ replies') (new ∷ states) (new' ∷ states') settled brought among begun from fine fine' run run' =
-      let step = Step-same_state cmp calls command reply' old' old new' new' (turned old old' from) (same_state _ _ refl) run'.0 in
+      let step = Step-same_state cmp calls old' old new' new' (turned old old' from) (same_state _ _ refl) command reply' run'.0 in
       let here = steps_alike command commands old reply reply' new new' settled.0 brought among fine.0 fine'.0 run.0 step in
       let state = Step-state calls total old command reply new begun run.0 in
       let to = one_state new new' here.bag here.among state (Step-state calls total old command reply' new' begun step) in

@@ -1,48 +1,46 @@
 -- What one command makes of a heap, from the contract of the call that carries it out.
-use Rattle.dary_heap.proofs.Common.{◌≡◌, ℕ, ◌<◌, ◌≤◌, ◌↔◌, Bool, List, [], ◌∷◌, ◌++◌, length, IsPermutation, Contains, refl, subst, arith, Option, Some, None, IsSome, IfSome, IfNone, slice_get, sym, inl, inr, true, false, IsTotalOrder, Mut, Called, CalledAt, TakesAt, cases_lt, nil_from_length, Contains-append_left, slice_get_within, get_or_from_slice_get, IsPermutation-to_front, IsPermutation-trans, length_permutation, Ordering, IsCallableOn, items_in, RisesWithin, push_bound, pop_bound, Contents, IsHeapOrdered, Command, Reply, Push, Pop, Ask, Pushed, PushRefused, Popped, Asked, Step, IsServed, Serves, room, sure_after, front, front_with}
+use Rattle.dary_heap.proofs.Common.{◌≡◌, ℕ, ◌≤◌, ◌↔◌, Bool, List, [], ◌∷◌, ◌++◌, length, IsPermutation, Contains, refl, subst, arith, Option, Some, None, IfSome, IfNone, slice_get, sym, inl, inr, true, false, IsTotalOrder, Mut, Called, CalledAt, TakesAt, Contains-append_left, slice_get_within, get_or_from_slice_get, length_permutation, Ordering, IsCallableOn, RisesWithin, pop_bound, charge, Contents, IsHeapOrdered, Command, Reply, Pop, Ask, Popped, Asked, Step, IsServed, Serves, room, sure_after, front, suc, ◌-◌, if◌then◌else◌, min, ap, ◌∙◌, length-append, append-nil, mul-le-mul_right, Contains-append_right, IsPermutation-sym, Contains-permutation, Bor, Yields, into_iter_items, items_where_true, IsSameBag, IsGreatest, mend_bound, IsExtended, first_no, depth, PopIf, Retain, Extend, Append, Done, IsJoined, nat_tests}
 use Rattle.std.proofs.Common.{Bor}
-use Rattle.dary_heap.proofs.Bags.{IsAmong, IsAmong-same, IsAmong-tail, has_none}
+use Rattle.dary_heap.proofs.Bags.{IsAmong, IsAmong-same, IsAmong-tail, front_cases, holds_none, IsAmong-append}
 use Rattle.dary_heap.proofs.Fronts.{alone, ordered_state, same_state}
-use Rattle.dary_heap.proofs.Order.{read}
+use Rattle.dary_heap.proofs.iter.Popping.{none_first}
+use Rattle.dary_heap.proofs.Order.{none_ordered, read}
+use Rattle.std.proofs.lemmas.Grind.{get_or_picked}
+use Rattle.std.specs.Vec.Iter.{into_iter_steps}
+use Rattle.std.specs.declared.vec.IntoIter.{IntoIter}
+use Rattle.dary_heap.specs.Filtering.{IsRetained}
+use Rattle.dary_heap.proofs.heap.Filtering.{few_picked}
 
 -- the items of a bag from which m was taken
 pub rest_among : {X : Type 0} (xs ys : List X) (m : X) → IsPermutation xs (m ∷ ys) → IsAmong (xs ++ []) ys
 rest_among xs ys m h = IsAmong-tail _ m ys (IsAmong-same _ xs (m ∷ ys) h (Contains-append_left xs []))
 
 module _ {X P : Type 0} {cmp : X → X → Ordering} {calls : P → X → Bool → P → Type 0} {D : ℕ} where
-  -- a step after which the items are those before
-  pub serves_unchanged : (old new : Contents X) (command : Command X P) (reply : Reply X) → new.items ≡ old.items → new.comparisons ≡ old.comparisons → IsHeapOrdered cmp D new.items → Step cmp calls old.items command reply old.items → IsServed (room old) command reply → sure_after (room old) command reply ≤ room new → Serves cmp calls D old command reply new
-  serves_unchanged old new command reply same uncounted ordered step served sure = record {
-    step = subst (Step cmp calls old.items command reply) (sym same) step;
-    charged = record { rises = omega (arith, uncounted); within = omega (arith, uncounted) };
+  -- a step that leaves all as it was
+  pub serves_same : {old new : Contents X} {command : Command X P} {reply : Reply X} → new ≡ old → IsHeapOrdered cmp D new.items → Step cmp calls old.items command reply old.items → IsServed (room old) command reply → sure_after (room old) command reply ≤ room old → Serves cmp calls D old command reply new
+  serves_same {old} same ordered step served sure = rw same record {
+    step = step;
+    charged = record { rises = omega arith; within = omega arith };
     served = served;
     sure = sure;
-    ordered = ordered;
-    among = λ y in'. Contains-append_left old.items (items_in (command ∷ [])) y (subst (λ l. Contains l y) same in');
+    ordered = rw same at ordered;
+    among = Contains-append_left old.items _;
   }
 
-  -- a step that leaves all as it was
-  pub serves_same : (old new : Contents X) (command : Command X P) (reply : Reply X) → new ≡ old → IsHeapOrdered cmp D new.items → Step cmp calls old.items command reply old.items → IsServed (room old) command reply → sure_after (room old) command reply ≤ room old → Serves cmp calls D old command reply new
-  serves_same old new command reply same ordered step served sure = rw same (serves_unchanged old old command reply refl refl (subst (λ (it : Contents X). IsHeapOrdered cmp D it.items) same ordered) step served sure)
-
-  pub pushed : (old new : Contents X) (x : X) → IsPermutation (x ∷ old.items) new.items → front new.items ≡ Some (front_with cmp x (front old.items)) → IsHeapOrdered cmp D new.items → RisesWithin old.comparisons new.comparisons (push_bound D (length old.items)) → old.capacity ≤ new.capacity → Serves cmp calls D old (Push x) Pushed new
-  pushed old new x bag first ordered charged more = record {
-    step = (bag, first);
-    charged = charged;
-    served = λ some. refl;
-    sure = omega (arith, length_permutation _ _ bag);
-    ordered = ordered;
-    among = IsAmong-same _ (old.items ++ x ∷ []) new.items (IsPermutation-trans _ _ _ (IsPermutation-to_front old.items x) bag) (λ y in'. in');
+  -- a step that takes all items away
+  pub serves_emptied : {old new : Contents X} {command : Command X P} {reply : Reply X} → new.items ≡ [] → Step cmp calls old.items command reply [] → RisesWithin old.comparisons new.comparisons (charge D (length old.items) command reply 0) → IsServed (room old) command reply → sure_after (room old) command reply ≤ 0 → Serves cmp calls D old command reply new
+  serves_emptied none step counted served sure = record {
+    step = rw none step;
+    charged = rw none counted;
+    served = served;
+    sure = omega (arith, sure);
+    ordered = none_ordered _ none;
+    among = λ x in'. absurd (holds_none x (rw none at in'));
   }
 
-  pub push_refused : (old new : Contents X) (x y : X) → new ≡ old → y ≡ x → length old.items ≡ old.capacity → IsHeapOrdered cmp D new.items → Serves cmp calls D old (Push x) (PushRefused y) new
-  push_refused old new x y same back full ordered = serves_same old new (Push x) (PushRefused y) same ordered (back, same_state _ _ refl) (λ some. absurd (omega arith)) (omega arith)
-
-  pub pops : IsTotalOrder cmp → (old new : Contents X) (r : Option X) → (IsSome r ↔ (0 < length old.items)) → r ≡ slice_get old.items 0 → IfSome r (λ m. IsPermutation old.items (m ∷ new.items)) → IsHeapOrdered cmp D new.items → RisesWithin old.comparisons new.comparisons (pop_bound D (length old.items)) → new.capacity ≡ old.capacity → IfNone r (new ≡ old) → Serves cmp calls D old Pop (Popped r) new
-  pops total old new None variant first bag ordered charged same unchanged =
-      let none : old.items ≡ [] = has_none old.items (λ some. let given : false ≡ true = variant.1 some in cc) in
-      serves_same old new Pop (Popped None) unchanged ordered (none, none) tt (omega arith)
-  pops total old new (Some m) variant first bag ordered charged same none = record {
+  pub pops : IsTotalOrder cmp → (old new : Contents X) (r : Option X) → r ≡ slice_get old.items 0 → IfSome r (λ m. IsPermutation old.items (m ∷ new.items)) → IsHeapOrdered cmp D new.items → RisesWithin old.comparisons new.comparisons (pop_bound D (length old.items)) → new.capacity ≡ old.capacity → IfNone r (new ≡ old) → Serves cmp calls D old Pop (Popped r) new
+  pops total old new None first bag ordered charged same unchanged = let none = none_first old.items first in serves_same unchanged ordered (none, none) tt (omega arith)
+  pops total old new (Some m) first bag ordered charged same none = record {
     step = (sym first, bag, ordered_state total D new.items ordered);
     charged = charged;
     served = tt;
@@ -51,15 +49,76 @@ module _ {X P : Type 0} {cmp : X → X → Ordering} {calls : P → X → Bool �
     among = rest_among old.items new.items m bag;
   }
 
--- the one item of a list is among those that have it
-only : {X : Type 0} (items : List X) (x : X) → Contains items x → (y : X) → Contains (x ∷ []) y → Contains items y
-only items x in' y here = subst (Contains items) (alone x y here) in'
+-- taking in fewer items costs no more
+mend_bound-fewer : (D n j k : ℕ) → j ≤ k → mend_bound D n j ≤ mend_bound D n k
+mend_bound-fewer D n j k h = let less = mul-le-mul_right (depth D (n - 1)) h in grind (arith, nat_tests)
+
+-- what was picked was there
+Contains-picked : {X : Type 0} (bs : List Bool) (xs : List X) (x : X) → Contains (items_where_true bs xs) x → Contains xs x
+Contains-picked bs xs x in' = let from = (get_or_picked bs xs in'.0 x in'.1).1 in (from.0, from.1, sym from.2 ∙ in'.2)
+
+-- items that come in behind others, all of them or a beginning
+came_behind : {X : Type 0} (xs ys all left new : List X) → all ≡ ys ++ left → IsSameBag (xs ++ ys) new → IsAmong (xs ++ (all ++ [])) new
+came_behind {X} xs ys all left new split bag =
+    let behind = λ (x : X) (in' : Contains ys x). Contains-append_right xs (all ++ []) x (Contains-append_left all [] x (subst (λ l. Contains l x) (sym split) (Contains-append_left ys left x in'))) in
+    IsAmong-same _ (xs ++ ys) new bag (IsAmong-append _ xs ys (Contains-append_left xs (all ++ [])) behind)
+
+-- where all are picked, each answer was yes
+none_removed : {X : Type 0} (bs : List Bool) (xs : List X) → length bs ≡ length xs → items_where_true bs xs ≡ xs → first_no bs ≡ length bs
+none_removed [] xs all same = refl
+none_removed (true ∷ bs) (x ∷ xs) all same = let rest : items_where_true bs xs ≡ xs = (cc) in ap suc (none_removed bs xs (omega arith) rest)
+none_removed (false ∷ bs) (x ∷ xs) all same = absurd (omega (arith, ap length same, few_picked bs xs))
+none_removed (b ∷ bs) [] all same = absurd (omega arith)
+
+module _ {X P : Type 0} {cmp : X → X → Ordering} {calls : P → X → Bool → P → Type 0} {D : ℕ} (total : IsTotalOrder cmp) where
+  pub retained : (old new : Contents X) (p : P) → IsRetained calls D p old new → IsHeapOrdered cmp D new.items → Serves cmp calls D old (Retain p) Done new
+  retained old new p h ordered =
+      let kept = items_where_true h.answers old.items in
+      let n = length new.items in
+      record {
+        step = (old.items, kept, same_state _ _ refl, (h.answers, h.after, h.all, h.asked, refl), h.bag, ordered_state total D new.items ordered, λ all_kept. ap (λ (it : Contents X). front it.items) (h.unchanged (none_removed h.answers old.items h.all all_kept)));
+        charged = record { rises = h.counted.rises; within = omega (arith, h.counted.within, mend_bound-fewer D n (n - first_no h.answers) n (omega arith)) };
+        served = tt;
+        sure = omega arith;
+        ordered = ordered;
+        among = λ x in'. Contains-append_left old.items [] x (Contains-picked h.answers old.items x (Contains-permutation new.items kept x (IsPermutation-sym kept new.items h.bag) in'));
+      }
+
+  -- xs came in, which is the list or a beginning of it
+  pub came_in : (old new : Contents X) (all xs left : List X) (reply : Reply X) → all ≡ xs ++ left → IsExtended cmp D old xs new → (IsJoined cmp old.items xs new.items → Step cmp calls old.items (Extend all) reply new.items) → Serves cmp calls D old (Extend all) reply new
+  came_in old new all xs left reply split h step = record {
+    step = step (record { bag = h.bag; state = ordered_state total D new.items h.ordered; first = λ none. ap front (h.unchanged none) });
+    charged = h.counted;
+    served = tt;
+    sure = omega arith;
+    ordered = h.ordered;
+    among = came_behind old.items xs all left new.items split h.bag;
+  }
+
+  pub appended : (old new : Contents X) (other : List X) → IsSameBag (old.items ++ other) new.items → (other ≡ [] → new.items ≡ old.items) → IsHeapOrdered cmp D new.items → RisesWithin old.comparisons new.comparisons (mend_bound D (length new.items) (min (length old.items) (length other))) → Serves cmp calls D old (Append other) Done new
+  appended old new other bag same_items ordered counted =
+      let more : length other ≡ length new.items - length old.items = omega (arith, length_permutation _ _ bag, length-append old.items other) in
+      record {
+        step = record { bag = bag; state = ordered_state total D new.items ordered; first = λ none. ap front (same_items none) };
+        charged = subst (λ k. RisesWithin old.comparisons new.comparisons (mend_bound D (length new.items) (min (length old.items) k))) more counted;
+        served = tt;
+        sure = omega arith;
+        ordered = ordered;
+        among = came_behind old.items other other [] new.items (sym (append-nil other)) bag;
+      }
+
+-- first what a vector's iterator gave, then what it still has
+pub taken_front : {X A : Type 0} (s : IntoIter X A) (xs : List X) (t : IntoIter X A) → Yields into_iter_steps s xs t → into_iter_items s ≡ xs ++ into_iter_items t
+taken_front s [] t y = ap into_iter_items y
+taken_front s (x ∷ xs) t y = y.1.0 ∙ ap (λ ys. x ∷ ys) (taken_front y.0 xs t y.2)
 
 -- a predicate that is called once at most, on the front
 module _ {X P : Type 0} (calls : Mut P (Bor X × Unit {0}) Bool) where
   -- it may be called there, where it may be called on each item
   pub callable_on_front : (items : List X) (p : P) → IsCallableOn calls items p → (f : X) → front items ≡ Some f → TakesAt calls p f
-  callable_on_front items p h f is = (h.in_turn (f ∷ []) (only items f (0, slice_get_within items 0 f is, get_or_from_slice_get items 0 f f is))).0
+  callable_on_front items p h f is =
+      let there : Contains items f = (0, slice_get_within items 0 f is, get_or_from_slice_get items 0 f f is) in
+      (h.in_turn (f ∷ []) (λ x in'. subst (Contains items) (alone f x in') there)).0
 
   -- p was asked about a reference to item
   abbrev pub Told : P → X → Bool → Type 0
@@ -70,12 +129,33 @@ module _ {X P : Type 0} (calls : Mut P (Bor X × Unit {0}) Bool) where
     told p item answer h = let called = (once p (h.0, tt) answer).0 h.1 in (called.0, record { shown = h.0; shows = h.2; called = called.1 })
 
     pub asks : {cmp : X → X → Ordering} {D : ℕ} (heap : Contents X) (p : P) (answer : Option Bool) → (heap.items ≡ [] → answer ≡ None) → ((item : X) → slice_get heap.items 0 ≡ Some item → (given : Bool) × Told p item given × (answer ≡ Some given)) → IsHeapOrdered cmp D heap.items → Serves cmp (CalledAt calls) D heap (Ask p) (Asked answer) heap
-    asks heap p answer none asked ordered = elim (cases_lt 0 (length heap.items)) [
-      | inl some ↦
-          let first = read heap.items 0 some in
+    asks heap p answer none asked ordered = elim (front_cases heap.items) [
+      | inl gone ↦ rw (none gone) (serves_same refl ordered (gone, gone) tt (omega arith))
+      | inr first ↦
           let given = asked first.0 first.1 in
-          rw given.2 (serves_same heap heap (Ask p) (Asked (Some given.0)) refl ordered ((first.0, first.1, told p first.0 given.0 given.1), same_state _ _ refl) tt (omega arith))
-      | inr few ↦
-          let gone = nil_from_length heap.items (omega arith) in
-          rw (none gone) (serves_same heap heap (Ask p) (Asked None) refl ordered (gone, gone) tt (omega arith))
+          rw given.2 (serves_same refl ordered ((first.0, first.1, told p first.0 given.0 given.1), same_state _ _ refl) tt (omega arith))
     ]
+
+    -- a pop that p decides
+    answered : {cmp : X → X → Ordering} {D : ℕ} → IsTotalOrder cmp → (old new : Contents X) (p : P) (r : Option X) (f : X) (answer : Bool) → front old.items ≡ Some f → Told p f answer → r ≡ (if answer then Some f else None) → IfSome r (λ m. IsPermutation old.items (m ∷ new.items)) → IsHeapOrdered cmp D new.items → RisesWithin old.comparisons new.comparisons (pop_bound D (length old.items)) → new.capacity ≡ old.capacity → IfNone r (new ≡ old) → Serves cmp (CalledAt calls) D old (PopIf p) (Popped r) new
+    answered total old new p r f false first asked is bag ordered charged same unchanged = rw is (serves_same (rw is at unchanged) ordered (inr ((f, first, told p f false asked), same_state _ _ refl)) tt (omega arith))
+    answered total old new p r f true first asked is bag ordered charged same unchanged =
+        let whole : IsPermutation old.items (f ∷ new.items) = rw is at bag in
+        rw is record {
+          step = ((first, whole, ordered_state total _ new.items ordered), told p f true asked);
+          charged = charged;
+          served = tt;
+          sure = omega (arith, length_permutation _ _ whole);
+          ordered = ordered;
+          among = rest_among old.items new.items f whole;
+        }
+
+    pub pops_where : {cmp : X → X → Ordering} {D : ℕ} → IsTotalOrder cmp → (old new : Contents X) (p : P) (r : Option X) → ((item : X) → slice_get old.items 0 ≡ Some item → (answer : Bool) × Told p item answer × (r ≡ (if answer then Some item else None))) → IfSome r (IsGreatest cmp old.items) → IfSome r (λ m. IsPermutation old.items (m ∷ new.items)) → IsHeapOrdered cmp D new.items → RisesWithin old.comparisons new.comparisons (pop_bound D (length old.items)) → new.capacity ≡ old.capacity → IfNone r (new ≡ old) → Serves cmp (CalledAt calls) D old (PopIf p) (Popped r) new
+    pops_where total old new p None asked greatest bag ordered charged same unchanged = elim (front_cases old.items) [
+      | inl none ↦ serves_same unchanged ordered (inl (none, none)) tt (omega arith)
+      | inr first ↦ let a = asked first.0 first.1 in answered total old new p None first.0 a.0 first.1 a.1 a.2 bag ordered charged same unchanged
+    ]
+    pops_where total old new p (Some m) asked greatest bag ordered charged same unchanged =
+        let first = read old.items 0 (omega (arith, greatest.occurs.1)) in
+        let a = asked first.0 first.1 in
+        answered total old new p (Some m) first.0 a.0 first.1 a.1 a.2 bag ordered charged same unchanged

@@ -1,6 +1,5 @@
 -- Edges that are examined one after another.
-use Rattle.dary_heap.proofs.Common.{◌≡◌, ◌⊎◌, ℕ, ◌+◌, ◌<◌, ◌≤◌, inl, inr, List, [], ◌∷◌, ◌++◌, length, Contains, arith, get_or, refl, sym, ap, ◌∙◌, subst, get_or-set_same, get_or-set_other, cases_eq, get_or_default, Contains-push, Contains-append_left, Contains-append_right, Contains-append_cases, length_permutation, sum_by-set, IsSameBag, state, IsAlong, Relaxes, Edge, State}
-use Rattle.std.proofs.Math.ListN.{set, length-set}
+use Rattle.dary_heap.proofs.Common.{◌≡◌, ◌⊎◌, ℕ, ◌+◌, ◌<◌, ◌≤◌, inl, inr, List, [], ◌∷◌, ◌++◌, length, Contains, arith, get_or, refl, sym, ap, ◌∙◌, subst, get_or-set_same, get_or-set_other, cases_eq, get_or_default, Contains-push, Contains-append_left, Contains-append_right, Contains-append_cases, length_permutation, sum_by-set, IsSameBag, state, IsAlong, Relaxes, Edge, State, set, length-set}
 use Rattle.dary_heap.proofs.shortest_path.Apart.{apart_more}
 use Rattle.dary_heap.proofs.Bags.{came_first, came_later, came_cases}
 use Rattle.dary_heap.proofs.Fronts.{alone}

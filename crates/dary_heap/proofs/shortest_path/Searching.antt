@@ -1,12 +1,45 @@
--- What holds of a search each time that a state is about to be taken, and what follows from it.
-use Rattle.dary_heap.proofs.Common.{◌≡◌, ◌≢◌, ◌⊎◌, ℕ, ◌+◌, ◌<◌, ◌≤◌, min, inl, inr, List, [], ◌∷◌, length, Contains, arith, get_or, get_or-set_same, get_or-set_other, refl, sym, ap, ◌∙◌, subst, Some, slice_get, Vec, Global, cases_lt, cases_eq, get_or_default, get_or_past, IsPermutation-sym, slice_get_read, IsSameBag, IsGreatest, state_cmp, state, IsAlong, Relaxes, Graph, IsWithin, HasEdge, IsWalk, cost_of, Edge, State}
+-- Walks, edge by edge; what holds of a search each time that a state is about to be taken, and what follows from it.
+use Rattle.dary_heap.proofs.Common.{◌≡◌, ℕ, ◌+◌, ◌<◌, List, [], ◌∷◌, ◌++◌, Contains, All, arith, refl, sym, subst, Some, slice_get, Vec, Global, All-contains, slice_get_within, get_or_from_slice_get, Graph, IsWithin, HasEdge, IsWalk, cost_of, Edge, ◌≢◌, ◌⊎◌, ◌≤◌, min, inl, inr, length, get_or, get_or-set_same, get_or-set_other, ap, ◌∙◌, cases_lt, cases_eq, get_or_default, get_or_past, IsPermutation-sym, slice_get_read, IsSameBag, IsGreatest, state_cmp, state, Relaxes, State}
 use Rattle.std.proofs.Math.ListN.{set, length-set, replicate}
 use Rattle.std.proofs.lemmas.List.{get_or-replicate, length-replicate}
-use Rattle.dary_heap.proofs.shortest_path.Cheapest.{no_cheaper}
-use Rattle.dary_heap.proofs.Bags.{holds_none, came_first, came_later, came_cases}
-use Rattle.dary_heap.proofs.shortest_path.Walks.{Reaches, reaches_self, reaches_more, in_row, leads_within}
+use Rattle.dary_heap.proofs.shortest_path.Apart.{no_cheaper}
+use Rattle.dary_heap.proofs.Bags.{holds_none, came_alone, came_first, came_later, came_cases}
 use Rattle.dary_heap.specs.Searching.{HasTooLarge}
 use Rattle.dary_heap.specs.Walk.{IsLeastCost, IsUnreached, HasCritical, NoneCriticalBelow}
+
+-- some walk from u to v costs c
+pub record Reaches (g : Graph) (u v c : ℕ) : Type 0 where
+  pub walk : List Edge
+  pub leads : IsWalk g u walk v
+  pub costs : cost_of walk ≡ c
+
+walk_more : (g : Graph) (u : ℕ) (walk : List Edge) (v : ℕ) (e : Edge) → IsWalk g u walk v → HasEdge g v e → IsWalk g u (walk ++ e ∷ []) e.node
+walk_more g u [] v e h has = (subst (λ (w : ℕ). HasEdge g w e) (sym h) has, refl)
+walk_more g u (d ∷ walk) v e h has = (h.0, walk_more g d.node walk v e h.1 has)
+
+cost_more : (walk : List Edge) (e : Edge) → cost_of (walk ++ e ∷ []) ≡ cost_of walk + e.cost
+cost_more [] e = omega arith
+cost_more (d ∷ walk) e = omega (arith, cost_more walk e)
+
+pub reaches_self : (g : Graph) (u : ℕ) → Reaches g u u 0
+reaches_self g u = record { walk = []; leads = refl; costs = refl }
+
+pub reaches_more : (g : Graph) (u v c : ℕ) (e : Edge) → Reaches g u v c → HasEdge g v e → Reaches g u e.node (c + e.cost)
+reaches_more g u v c e h has = record {
+  walk = h.walk ++ e ∷ [];
+  leads = walk_more g u h.walk v e h.leads has;
+  costs = omega (arith, cost_more h.walk e, h.costs);
+}
+
+-- an edge that leaves a node stands in its row
+pub in_row : (g : Graph) (u : ℕ) (row : Vec Edge Global) (e : Edge) → slice_get g u ≡ Some row → HasEdge g u e → Contains row.items e
+in_row g u row e is has = let same : has.row ≡ row = (cc (has.row_is)) in subst (λ (r : Vec Edge Global). Contains r.items e) same has.stands
+
+-- it leads to a node of the graph
+pub leads_within : (g : Graph) (n u : ℕ) (e : Edge) → IsWithin n g → HasEdge g u e → e.node < n
+leads_within g n u e h has =
+    let row : Contains g has.row = (u, slice_get_within g u has.row has.row_is, get_or_from_slice_get g u has.row has.row has.row_is) in
+    All-contains (λ (e : Edge). e.node < n) has.row.items e (All-contains (λ (r : Vec Edge Global). All (λ (e : Edge). e.node < n) r.items) g has.row h row) has.stands
 
 module _ (limit : ℕ) (g : Graph) (start goal : ℕ) where
   -- node u isn't the goal, and each of its edges was examined at the cost found for u
@@ -40,36 +73,27 @@ alike n v a = elim (cases_lt v n) [
   | inr le ↦ get_or_past (replicate n a) v a (omega (arith, length-replicate n a))
 ]
 
-module _ {limit : ℕ} {g : Graph} {start goal : ℕ} where
-  -- nothing is found but the start
-  at_start : (found : List ℕ) (waiting : List State) → 0 < limit → start < length found → length found ≡ length g → get_or found start limit ≡ 0 → ((v : ℕ) → v ≢ start → get_or found v limit ≡ limit) → IsSameBag (state 0 start ∷ []) waiting → IsSearch limit g start goal found waiting
-  at_start found waiting positive within long here there bag = record {
-    long = long;
-    positive = positive;
-    begun = here;
-    reached = λ v some. elim (cases_eq v start) [
-      | inl is ↦ rw is (rw here (reaches_self g start))
-      | inr ne ↦ absurd (omega (arith, there v ne))
-    ];
-    waits = λ x h. elim (came_cases (state 0 start) [] waiting x bag h) [
-      | inl is ↦ subst (IsWaiting limit g start goal found) is record { within = within; below = positive; above = omega arith; reached = reaches_self g start }
-      | inr old ↦ absurd (holds_none x old)
-    ];
-    settled = λ u some. elim (cases_eq u start) [
-      | inl is ↦ inl (rw is (rw here (came_first (state 0 start) [] waiting bag)))
-      | inr ne ↦ absurd (omega (arith, there u ne))
-    ];
-  }
-
-  -- the search as it begins: no cost is found, and then 0 for the start, whose state alone waits
-  pub search_begins : {nothing : List ℕ} {before waiting : List State} (n : ℕ) → 0 < limit → n ≡ length g → start < n → nothing ≡ replicate n limit → before ≡ [] → IsSameBag (state 0 start ∷ before) waiting → IsSearch limit g start goal (set nothing start 0) waiting
-  search_begins {nothing} {before} {waiting} n positive many near all empty bag =
-      let long : length nothing ≡ n = ap length all ∙ length-replicate n limit in
-      at_start
-      (set nothing start 0) waiting positive (omega (arith, length-set nothing start 0)) (length-set nothing start 0 ∙ (long ∙ many))
-      (get_or-set_same nothing start 0 limit (omega arith))
-      (λ v ne. get_or-set_other nothing start v 0 limit ne ∙ (ap (λ (xs : List ℕ). get_or xs v limit) all ∙ alike n v limit))
-      (subst (λ (xs : List State). IsSameBag (state 0 start ∷ xs) waiting) empty bag)
+-- the search as it begins: no cost is found, and then 0 for the start, whose state alone waits
+pub search_begins : {limit : ℕ} {g : Graph} {start goal : ℕ} {nothing : List ℕ} {waiting : List State} (n : ℕ) → 0 < limit → n ≡ length g → start < n → nothing ≡ replicate n limit → IsSameBag (state 0 start ∷ []) waiting → IsSearch limit g start goal (set nothing start 0) waiting
+search_begins {limit} {g} {start} {goal} {nothing} {waiting} n positive many near all bag =
+    let found = set nothing start 0 in
+    let long : length found ≡ n = length-set nothing start 0 ∙ ap length all ∙ length-replicate n limit in
+    let here : get_or found start limit ≡ 0 = get_or-set_same nothing start 0 limit (omega (arith, long, length-set nothing start 0)) in
+    let there = λ (v : ℕ) (ne : v ≢ start). get_or-set_other nothing start v 0 limit ne ∙ (ap (λ (xs : List ℕ). get_or xs v limit) all ∙ alike n v limit) in
+    record {
+      long = long ∙ many;
+      positive = positive;
+      begun = here;
+      reached = λ v some. elim (cases_eq v start) [
+        | inl is ↦ rw is (rw here (reaches_self g start))
+        | inr ne ↦ absurd (omega (arith, there v ne))
+      ];
+      waits = λ x h. subst (IsWaiting limit g start goal found) (came_alone (state 0 start) waiting x bag h) record { within = omega (arith, long); below = positive; above = omega arith; reached = reaches_self g start };
+      settled = λ u some. elim (cases_eq u start) [
+        | inl is ↦ inl (rw is (rw here (came_first (state 0 start) [] waiting bag)))
+        | inr ne ↦ absurd (omega (arith, there u ne))
+      ];
+    }
 
 module _ {limit : ℕ} {g : Graph} {start goal : ℕ} {found : List ℕ} where
   -- a node of which a least cost is known, and for which no less was found, isn't critical once it was examined
@@ -128,6 +152,14 @@ module _ {limit : ℕ} {g : Graph} {start goal : ℕ} {found : List ℕ} where
       found_is : (x : ℕ) → x ≡ get_or found s.position x → x ≡ get_or found s.position limit
       found_is x read = read ∙ get_or_default found s.position x limit taken.within
 
+      -- the state isn't dearer than that
+      pub current : (x : ℕ) → x ≡ get_or found s.position x → s.cost ≤ x → get_or found s.position limit ≡ s.cost
+      current x read fresh = omega (arith, found_is x read, taken.above)
+
+      -- the row that the code read
+      pub row_read : (row : Vec Edge Global) → row ≡ get_or g s.position row → slice_get g s.position ≡ Some row
+      row_read row read = slice_get_read g (length g) s.position row refl (omega (arith, taken.within, S.long)) read
+
       -- the state isn't the cheapest of its node
       pub after_skip : (x : ℕ) → x ≡ get_or found s.position x → x < s.cost → IsSearch limit g start goal found rest
       after_skip x read stale = record {
@@ -138,9 +170,7 @@ module _ {limit : ℕ} {g : Graph} {start goal : ℕ} {found : List ℕ} where
         waits = λ y h. S.waits y (came_later s rest waiting y held h);
         settled = λ u some. elim (S.settled u some) [
           | inl wait ↦ elim (came_cases s rest waiting (state (get_or found u limit) u) held wait) [
-            | inl is ↦
-                (let found_there : get_or found s.position limit ≡ get_or found u limit = ap (λ (y : State). get_or found y.position limit) is in
-                absurd (omega (arith, found_is x read, ap (λ (y : State). y.cost) is)))
+            | inl is ↦ absurd (omega (arith, found_is x read, ap (λ (y : State). get_or found y.position limit) is, ap (λ (y : State). y.cost) is))
             | inr left ↦ inl left
           ]
           | inr examined ↦ inr examined
@@ -185,14 +215,7 @@ module _ {limit : ℕ} {g : Graph} {start goal : ℕ} {found : List ℕ} where
               | inr x ↦ uncritical v c critical.edge x r (S.reached v some) critical.leaves critical.too_large
             ]
 
-      module _ (other : s.position ≢ goal) (x : ℕ) (read : x ≡ get_or found s.position x) (fresh : s.cost ≤ x) (row : Vec Edge Global) (row_read : row ≡ get_or g s.position row) where
-        row_is : slice_get g s.position ≡ Some row
-        row_is = slice_get_read g (length g) s.position row refl (omega (arith, taken.within, S.long)) row_read
-
-        -- the cost of the state is the one found
-        same : get_or found s.position limit ≡ s.cost
-        same = omega (arith, found_is x read, taken.above)
-
+      module _ (other : s.position ≢ goal) (same : get_or found s.position limit ≡ s.cost) (row : Vec Edge Global) (row_is : slice_get g s.position ≡ Some row) where
         -- an edge of the node costs too much
         pub too_large : IsGreatest state_cmp waiting s → HasTooLarge limit s.cost row.items → HasCritical limit g start goal
         too_large greatest large = record {
@@ -215,30 +238,20 @@ module _ {limit : ℕ} {g : Graph} {start goal : ℕ} {found : List ℕ} where
 
         -- the edges of the node are examined
         module _ {lower : List ℕ} {grown : List State} (R : Relaxes limit s.cost row.items found rest lower grown) where
-          -- a state that came over one of them
-          along : IsWithin (length g) g → (y : State) → IsAlong s.cost row.items y → IsWaiting limit g start goal lower y
-          along inside y a =
-              let has : HasEdge g s.position a.edge = record { row = row; row_is = row_is; stands = a.stands } in
-              record {
-                within = omega (arith, a.ends, S.long, R.same, leads_within g (length g) s.position a.edge inside has);
-                below = omega (arith, a.costs, R.sums a.edge a.stands);
-                above = rw a.ends (rw a.costs (R.ends a.edge a.stands));
-                reached = rw a.ends (rw a.costs (reaches_more g start s.position s.cost a.edge taken.reached has));
-              }
-
-          -- a state that waited before
-          stays : (y : State) → IsWaiting limit g start goal found y → IsWaiting limit g start goal lower y
-          stays y old = record {
-            within = omega (arith, old.within, R.same);
-            below = old.below;
-            above = omega (arith, old.above, R.falls y.position);
-            reached = old.reached;
-          }
-
+          -- a state that waits then waited before, or came over one of them
           waits_on : IsWithin (length g) g → (y : State) → Contains grown y → IsWaiting limit g start goal lower y
           waits_on inside y h = elim (R.adds y h) [
-            | inl old ↦ stays y (S.waits y (came_later s rest waiting y held old))
-            | inr new ↦ along inside y new
+            | inl before ↦
+                let old = S.waits y (came_later s rest waiting y held before) in
+                record { within = omega (arith, old.within, R.same); below = old.below; above = omega (arith, old.above, R.falls y.position); reached = old.reached }
+            | inr a ↦
+                let has : HasEdge g s.position a.edge = record { row = row; row_is = row_is; stands = a.stands } in
+                record {
+                  within = omega (arith, a.ends, S.long, R.same, leads_within g (length g) s.position a.edge inside has);
+                  below = omega (arith, a.costs, R.sums a.edge a.stands);
+                  above = rw a.ends (rw a.costs (R.ends a.edge a.stands));
+                  reached = rw a.ends (rw a.costs (reaches_more g start s.position s.cost a.edge taken.reached has));
+                }
           ]
 
           -- the node itself, whose cost stayed
@@ -253,20 +266,13 @@ module _ {limit : ℕ} {g : Graph} {start goal : ℕ} {found : List ℕ} where
                 ends = λ e has. rw costs (R.ends e (in_row g u row e here has));
               }
 
-          -- a node that was examined before, and whose cost stayed
-          examined_on : (u : ℕ) → IsExamined limit g start goal found u → get_or lower u limit ≡ get_or found u limit → IsExamined limit g start goal lower u
-          examined_on u old stayed = record {
-            other = old.other;
-            sums = λ e has. rw stayed (old.sums e has);
-            ends = λ e has. omega (arith, stayed, old.ends e has, R.falls e.node);
-          }
-
+          -- a node whose cost stayed
           settled_on : (u : ℕ) → get_or lower u limit ≡ get_or found u limit → Contains waiting (state (get_or found u limit) u) ⊎ IsExamined limit g start goal found u → Contains grown (state (get_or lower u limit) u) ⊎ IsExamined limit g start goal lower u
           settled_on u stayed (inl waits) = elim (came_cases s rest waiting (state (get_or found u limit) u) held waits) [
             | inl is ↦ inr (examined u (sym is) stayed)
             | inr left ↦ inl (rw stayed (R.keeps (state (get_or found u limit) u) left))
           ]
-          settled_on u stayed (inr old) = inr (examined_on u old stayed)
+          settled_on u stayed (inr old) = inr record { other = old.other; sums = λ e has. rw stayed (old.sums e has); ends = λ e has. omega (arith, stayed, old.ends e has, R.falls e.node) }
 
           pub after_examining : IsWithin (length g) g → IsSearch limit g start goal lower grown
           after_examining inside = record {

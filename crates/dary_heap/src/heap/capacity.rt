@@ -7,7 +7,7 @@ use crate::sift::ByOrd;
 use std::alloc::{AllocError, Global};
 
 impl<T: Ord, const D: usize> DaryHeap<T, D> {
-    /// Returns an empty heap with room for at least `capacity` items.
+    /// Returns an empty heap with room for at least `capacity` items. Makes no comparison.
     ///
     /// # Errors
     ///
@@ -18,15 +18,9 @@ impl<T: Ord, const D: usize> DaryHeap<T, D> {
     ///
     /// ```
     /// use dary_heap::QuaternaryHeap;
-    ///
-    /// let mut heap = QuaternaryHeap::with_capacity(alloc, 10)?;
+    /// let heap = QuaternaryHeap::<i32>::with_capacity(alloc, 10)?;
     /// assert!(rt; heap.capacity() >= 10);
-    /// heap.push(4)?;
     /// ```
-    ///
-    /// # Time
-    ///
-    /// No comparison.
     pub fn with_capacity(alloc: Global, capacity: usize) -> Result<Self, AllocError>
         ensures items { IfOk result (λ heap. heap.items ≡ []) }
         ensures capacity { IfOk result (λ heap. capacity ≤ heap.capacity) }
@@ -39,7 +33,7 @@ impl<T: Ord, const D: usize> DaryHeap<T, D> {
         })
     }
 
-    /// Reserves room for at least `additional` more items.
+    /// Reserves room for at least `additional` more items. Makes no comparison.
     ///
     /// After `Ok` that many pushes allocate no memory, and don't fail. If there is room already, it
     /// does nothing.
@@ -53,16 +47,10 @@ impl<T: Ord, const D: usize> DaryHeap<T, D> {
     ///
     /// ```
     /// use dary_heap::BinaryHeap;
-    ///
-    /// let mut heap = BinaryHeap::new(alloc);
+    /// let mut heap = BinaryHeap::<i32>::new(alloc);
     /// heap.reserve(100)?;
     /// assert!(rt; heap.capacity() >= 100);
-    /// heap.push(4)?;
     /// ```
-    ///
-    /// # Time
-    ///
-    /// No comparison.
     pub fn reserve(&mut self, additional: usize) -> Result<(), AllocError>
         ensures { Reserves T.cmp D additional self.old self.new result }
     {
@@ -70,8 +58,7 @@ impl<T: Ord, const D: usize> DaryHeap<T, D> {
     }
 
     /// Reserves room for `additional` more items, and for no more than that if it has to allocate.
-    ///
-    /// Prefer [`reserve`](DaryHeap::reserve) if more items may follow.
+    /// Makes no comparison. Prefer [`reserve`](DaryHeap::reserve) if more items may follow.
     ///
     /// # Errors
     ///
@@ -81,22 +68,17 @@ impl<T: Ord, const D: usize> DaryHeap<T, D> {
     ///
     /// ```
     /// use dary_heap::BinaryHeap;
-    ///
     /// let mut heap = BinaryHeap::<i32>::new(alloc);
     /// heap.reserve_exact(100)?;
     /// assert_eq!(rt; heap.capacity(), 100);
     /// ```
-    ///
-    /// # Time
-    ///
-    /// No comparison.
     pub fn reserve_exact(&mut self, additional: usize) -> Result<(), AllocError>
         ensures { ReservesExactly T.cmp D additional self.old self.new result }
     {
         self.items.reserve_exact(additional)
     }
 
-    /// Does the same as [`reserve`](DaryHeap::reserve), which returns a `Result` too.
+    /// Does the same as [`reserve`](DaryHeap::reserve). Makes no comparison.
     ///
     /// # Errors
     ///
@@ -106,23 +88,17 @@ impl<T: Ord, const D: usize> DaryHeap<T, D> {
     ///
     /// ```
     /// use dary_heap::TernaryHeap;
-    ///
-    /// let mut heap = TernaryHeap::new(alloc);
+    /// let mut heap = TernaryHeap::<i32>::new(alloc);
     /// heap.try_reserve(3)?;
-    /// heap.extend([4, 8, 6])?;
-    /// assert_eq!(rt; heap.pop(), Some(8));
+    /// assert!(rt; heap.capacity() >= 3);
     /// ```
-    ///
-    /// # Time
-    ///
-    /// No comparison.
     pub fn try_reserve(&mut self, additional: usize) -> Result<(), AllocError>
         ensures { Reserves T.cmp D additional self.old self.new result }
     {
         self.reserve(additional)
     }
 
-    /// Does the same as [`reserve_exact`](DaryHeap::reserve_exact), which returns a `Result` too.
+    /// Does the same as [`reserve_exact`](DaryHeap::reserve_exact). Makes no comparison.
     ///
     /// # Errors
     ///
@@ -132,25 +108,18 @@ impl<T: Ord, const D: usize> DaryHeap<T, D> {
     ///
     /// ```
     /// use dary_heap::TernaryHeap;
-    ///
-    /// let mut heap = TernaryHeap::new(alloc);
+    /// let mut heap = TernaryHeap::<i32>::new(alloc);
     /// heap.try_reserve_exact(3)?;
-    /// heap.extend([4, 8, 6])?;
-    /// assert_eq!(rt; heap.pop(), Some(8));
+    /// assert_eq!(rt; heap.capacity(), 3);
     /// ```
-    ///
-    /// # Time
-    ///
-    /// No comparison.
     pub fn try_reserve_exact(&mut self, additional: usize) -> Result<(), AllocError>
         ensures { ReservesExactly T.cmp D additional self.old self.new result }
     {
         self.reserve_exact(additional)
     }
 
-    /// Shrinks the capacity to `min_capacity`, or to the length if that is greater.
-    ///
-    /// If the capacity is no greater than that, it does nothing.
+    /// Shrinks the capacity to `min_capacity`, or to the length if that is greater. If the capacity
+    /// is no greater than that, it does nothing. Makes no comparison.
     ///
     /// # Errors
     ///
@@ -161,15 +130,10 @@ impl<T: Ord, const D: usize> DaryHeap<T, D> {
     ///
     /// ```
     /// use dary_heap::BinaryHeap;
-    ///
     /// let mut heap = BinaryHeap::<i32>::with_capacity(alloc, 100)?;
     /// heap.shrink_to(10)?;
     /// assert_eq!(rt; heap.capacity(), 10);
     /// ```
-    ///
-    /// # Time
-    ///
-    /// No comparison.
     pub fn shrink_to(&mut self, min_capacity: usize) -> Result<(), AllocError>
         ensures { Shrinks T.cmp D
             (max (length self.old.items) min_capacity) self.old self.new result }
@@ -182,7 +146,7 @@ impl<T: Ord, const D: usize> DaryHeap<T, D> {
         Ok(())
     }
 
-    /// Shrinks the capacity to the length.
+    /// Shrinks the capacity to the length. Makes no comparison.
     ///
     /// # Errors
     ///
@@ -192,16 +156,11 @@ impl<T: Ord, const D: usize> DaryHeap<T, D> {
     ///
     /// ```
     /// use dary_heap::BinaryHeap;
-    ///
     /// let mut heap = BinaryHeap::with_capacity(alloc, 100)?;
     /// heap.push(7)?;
     /// heap.shrink_to_fit()?;
     /// assert_eq!(rt; heap.capacity(), 1);
     /// ```
-    ///
-    /// # Time
-    ///
-    /// No comparison.
     pub fn shrink_to_fit(&mut self) -> Result<(), AllocError>
         ensures { Shrinks T.cmp D (length self.old.items) self.old self.new result }
     {

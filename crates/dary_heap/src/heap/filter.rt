@@ -17,7 +17,8 @@ impl<T: Ord, const D: usize> DaryHeap<T, D> {
     ///
     /// The predicate is called once, on the item that [`peek`](DaryHeap::peek) returns, and not at
     /// all on an empty heap. If it returns `false`, or the heap is empty, the call returns `None`
-    /// and nothing changes.
+    /// and nothing changes. It takes at most as many comparisons as a [`pop`](DaryHeap::pop), and
+    /// none if it returns `None`.
     ///
     /// # Preconditions
     ///
@@ -27,16 +28,10 @@ impl<T: Ord, const D: usize> DaryHeap<T, D> {
     ///
     /// ```
     /// use dary_heap::BinaryHeap;
-    ///
     /// let mut heap = BinaryHeap::from(vec![in alloc; 1, 2]?);
     /// assert_eq!(rt; heap.pop_if(|item| *item & 1 == 0), Some(2));
     /// assert_eq!(rt; heap.pop_if(|item| *item & 1 == 0), None);
-    /// assert_eq!(rt; heap.len(), 1);
     /// ```
-    ///
-    /// # Time
-    ///
-    /// At most as many comparisons as a [`pop`](DaryHeap::pop), and none if it returns `None`.
     pub fn pop_if<F: FnOnce(&T) -> bool>(&mut self, predicate: F) -> Option<T>
         requires { (item : T) → slice_get self.old.items 0 ≡ Some item
             → FnOnceTakesAt F.FnOnce predicate item }
@@ -67,7 +62,9 @@ impl<T: Ord, const D: usize> DaryHeap<T, D> {
     ///
     /// The predicate is called once for each item, in the order of
     /// [`as_slice`](DaryHeap::as_slice). If it returns `true` for all, nothing changes. The
-    /// capacity stays the same.
+    /// capacity stays the same. The call takes as many comparisons as
+    /// [`mend_with`](crate::sift::mend_with) of the kept items from the first removed place on, and
+    /// none if none is removed.
     ///
     /// # Preconditions
     ///
@@ -77,16 +74,10 @@ impl<T: Ord, const D: usize> DaryHeap<T, D> {
     ///
     /// ```
     /// use dary_heap::BinaryHeap;
-    ///
     /// let mut heap = BinaryHeap::from(vec![in alloc; 9, 8, 2, 1, 3]?);
     /// heap.retain(|item| *item & 1 == 1);
     /// assert_eq!(rt; heap.as_slice(), [9, 1, 3].as_slice());
     /// ```
-    ///
-    /// # Time
-    ///
-    /// As [`mend_with`](crate::sift::mend_with) of the items that are kept, from the first removed
-    /// place on; no comparison if none is removed.
     pub fn retain<F: FnMut(&T) -> bool>(&mut self, f: F)
     where
         T: Drop,
@@ -100,21 +91,16 @@ impl<T: Ord, const D: usize> DaryHeap<T, D> {
         mend_with::<T, ByOrd, D>(self.items.as_mut_slice(), start, &mut self.judge);
     }
 
-    /// Drops all items. The capacity stays the same.
+    /// Drops all items. The capacity stays the same. Makes no comparison.
     ///
     /// # Examples
     ///
     /// ```
     /// use dary_heap::BinaryHeap;
-    ///
     /// let mut heap = BinaryHeap::from(vec![in alloc; 1, 3]?);
     /// heap.clear();
     /// assert!(rt; heap.is_empty());
     /// ```
-    ///
-    /// # Time
-    ///
-    /// No comparison.
     pub fn clear(&mut self)
     where
         T: Drop,

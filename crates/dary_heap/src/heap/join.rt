@@ -5,7 +5,6 @@ ghost use Rattle.std.specs.Iterator.{ExtendsWithItems, Drains, HoldsAlong, IsFin
 ghost use Rattle.dary_heap.specs.Appending.{receiving_capacity, moving_capacity};
 ghost use Rattle.dary_heap.specs.Bag.{IsSameBag};
 ghost use Rattle.dary_heap.specs.Bounds.{RisesWithin, mend_bound};
-ghost use Rattle.dary_heap.specs.Contents.{Contents};
 ghost use Rattle.dary_heap.specs.Extending.{IsExtended, IsExtendedUntilRefused, IsPoured, IsRefusedAfter};
 ghost use Rattle.dary_heap.specs.HeapOrder.{IsHeapOrdered};
 
@@ -20,7 +19,9 @@ impl<T: Ord, const D: usize> DaryHeap<T, D> {
     ///
     /// The items of the shorter heap go behind those of the longer one: if `other` is the longer,
     /// the two exchange their vectors first, and so their capacities. If `other` is empty, this
-    /// heap's slice stays as it is.
+    /// heap's slice stays as it is. This heap makes as many comparisons as
+    /// [`mend_with`](crate::sift::mend_with) of as many items as the shorter heap has, and `other`
+    /// makes none.
     ///
     /// # Errors
     ///
@@ -31,18 +32,12 @@ impl<T: Ord, const D: usize> DaryHeap<T, D> {
     ///
     /// ```
     /// use dary_heap::BinaryHeap;
-    ///
     /// let mut heap = BinaryHeap::from(vec![in alloc; 1, 2]?);
     /// let mut other = BinaryHeap::from(vec![in alloc; 3, 4]?);
     /// heap.append(&mut other)?;
     /// assert_eq!(rt; heap.as_slice(), [4, 3, 2, 1].as_slice());
     /// assert!(rt; other.is_empty());
     /// ```
-    ///
-    /// # Time
-    ///
-    /// As [`mend_with`](crate::sift::mend_with) of as many items as the shorter heap has. This heap
-    /// makes the comparisons, `other` makes none.
     pub fn append(&mut self, other: &mut Self) -> Result<(), AllocError>
         ensures bag { OnOk result (IsSameBag (self.old.items ++ other.old.items) self.new.items) }
         ensures emptied { OnOk result (other.new.items ≡ []) }
@@ -145,9 +140,8 @@ fn pour<T, X: Element<T>, I: Iterator<Item = X>>(
     (items, (rest, false))
 }
 
-/// Reserves room for one item more and, if there is memory for them, for `others` beyond.
-///
-/// So many needn't come, so it doesn't fail if there is no memory for them.
+/// Reserves room for one item more and, if there is memory for them, for `others` beyond, of which
+/// so many needn't come.
 fn make_room<T>(items: &mut Vec<T>, others: usize) -> Result<(), AllocError>
     ensures items { items.new.items ≡ items.old.items }
     ensures len { vec_len items.new ≡ vec_len items.old }
@@ -209,7 +203,8 @@ fn extend_heap<T: Ord + Drop, X: Element<T>, U: IntoIterator<Item = X>, const D:
 
 /// Adds the items of an iterator, in order, and restores heap order once at the end.
 ///
-/// If the iterator gives none, the slice stays as it is.
+/// If the iterator gives none, the slice stays as it is. The call takes as many comparisons as
+/// [`mend_with`](crate::sift::mend_with) of the added items.
 ///
 /// # Preconditions
 ///
@@ -224,15 +219,10 @@ fn extend_heap<T: Ord + Drop, X: Element<T>, U: IntoIterator<Item = X>, const D:
 ///
 /// ```
 /// use dary_heap::BinaryHeap;
-///
 /// let mut heap = BinaryHeap::from(vec![in alloc; 3, 1, 2]?);
 /// heap.extend([9, 8])?;
 /// assert_eq!(rt; heap.as_slice(), [9, 8, 2, 1, 3].as_slice());
 /// ```
-///
-/// # Time
-///
-/// As [`mend_with`](crate::sift::mend_with) of as many items as were added.
 impl<T: Ord + Drop, const D: usize> Extend<T> for DaryHeap<T, D> {
     ghost extend_gives = { λ old xs new. IsExtended T.cmp D old xs new };
 
@@ -255,10 +245,8 @@ impl<T: Ord + Drop, const D: usize> Extend<T> for DaryHeap<T, D> {
 ///
 /// ```
 /// use dary_heap::BinaryHeap;
-///
-/// let more = [9, 8];
 /// let mut heap = BinaryHeap::from(vec![in alloc; 3, 1, 2]?);
-/// heap.extend(&more)?;
+/// heap.extend(&[9, 8])?;
 /// assert_eq!(rt; heap.pop(), Some(9));
 /// ```
 impl<'a, T: Ord + Copy + 'a, const D: usize> Extend<&'a T> for DaryHeap<T, D> {

@@ -56,7 +56,6 @@ impl<T> Places<T> {
 }
 
 impl<T> Hole<T> {
-    /// Returns the item at another place.
     #[inline(always)]
     pub(crate) fn get(&self, place: usize) -> &T
         requires { (place < length self.now.items) × (place ≢ self.now.at) }
@@ -78,7 +77,6 @@ impl<T> Hole<T> {
         unsafe { self.ptr.add(at).write(self.ptr.add(place).read()) }
     }
 
-    /// Fills the hole, which is at `at`.
     #[inline(always)]
     pub(crate) fn fill(self, at: usize, item: T) -> Places<T>
         requires { at ≡ self.at }

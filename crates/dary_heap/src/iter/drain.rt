@@ -19,14 +19,11 @@ use std::{fmt, mem};
 ///
 /// ```
 /// use dary_heap::BinaryHeap;
-///
 /// let mut heap = BinaryHeap::from(vec![in alloc; 4, 3, 2, 1]?);
 /// let mut items = heap.drain();
 /// assert_eq!(rt; items.next(), Some(4));
 /// assert_eq!(rt; items.next_back(), Some(1));
 /// assert_eq!(rt; items.len(), 2);
-/// drop(items);
-/// assert!(rt; heap.is_empty());
 /// ```
 #[derive(Drop)]
 pub struct Drain<'a, T> {
@@ -39,7 +36,7 @@ impl<T: Ord, const D: usize> DaryHeap<T, D> {
     ghost use Rattle.dary_heap.specs.Drain.{drain_rest, drain_lender, leaves_emptied};
 
     /// Removes all items, and returns an iterator over them, in the order in which they were
-    /// stored.
+    /// stored. Makes no comparison.
     ///
     /// Once the iterator is gone, also if it was dropped early or forgotten, the heap is empty. Its
     /// vector goes to the iterator, so its capacity is 0 then.
@@ -48,15 +45,10 @@ impl<T: Ord, const D: usize> DaryHeap<T, D> {
     ///
     /// ```
     /// use dary_heap::BinaryHeap;
-    ///
     /// let mut heap = BinaryHeap::from(vec![in alloc; 1, 3]?);
     /// assert_eq!(rt; heap.drain().next(), Some(3));
     /// assert!(rt; heap.is_empty());
     /// ```
-    ///
-    /// # Time
-    ///
-    /// No comparison.
     pub fn drain(&mut self) -> Drain<'_, T>
         // Once the iterator is gone the heap has no items, no room and the same count.
         ensures* emptied { sem 𝓛 (leaves_emptied T.row D.row T.Ord.own T.PartialEq T.PartialOrd.own

@@ -14,25 +14,18 @@ use std::iter::FusedIterator;
 /// empty afterwards.
 ///
 /// [`DaryHeap::drain_sorted`] returns it. When it is dropped, it pops and drops the items that are
-/// left.
+/// left. That takes at most as many comparisons as their pops.
 ///
 /// # Examples
 ///
 /// ```
 /// use dary_heap::BinaryHeap;
-///
 /// let mut heap = BinaryHeap::from(vec![in alloc; 2, 9, 4]?);
 /// let mut items = heap.drain_sorted();
 /// assert_eq!(rt; items.next(), Some(9));
 /// assert_eq!(rt; items.next(), Some(4));
 /// assert_eq!(rt; items.len(), 1);
-/// drop(items);
-/// assert!(rt; heap.is_empty());
 /// ```
-///
-/// # Time
-///
-/// A drop takes at most as many comparisons as the pops of the items that are left.
 pub struct DrainSorted<'a, T: Ord + Drop, const D: usize> {
     heap: &'a mut DaryHeap<T, D>,
 }
@@ -68,22 +61,17 @@ impl<T: Ord, const D: usize> DaryHeap<T, D> {
     /// Returns an iterator that removes the items in descending order. It allocates no memory.
     ///
     /// Equal items come in the order in which pops return them. Once the iterator is dropped, also
-    /// before its end, the heap is empty and keeps its capacity.
+    /// before its end, the heap is empty and keeps its capacity. The call takes no comparison, and
+    /// each item at most as many as a [`pop`](DaryHeap::pop), also those that the drop pops.
     ///
     /// # Examples
     ///
     /// ```
     /// use dary_heap::TernaryHeap;
-    ///
     /// let mut heap = TernaryHeap::from(vec![in alloc; 1, 2, 3, 4, 5]?);
     /// assert_eq!(rt; heap.drain_sorted().next(), Some(5));
     /// assert!(rt; heap.is_empty());
     /// ```
-    ///
-    /// # Time
-    ///
-    /// No comparison, and then at most as many as a [`pop`](DaryHeap::pop) for each item, also for
-    /// those that the drop pops.
     pub fn drain_sorted(&mut self) -> DrainSorted<'_, T, D>
     where
         T: Drop,

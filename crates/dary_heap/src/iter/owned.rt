@@ -1,5 +1,5 @@
 //! The iterator that consumes a heap.
-ghost use Rattle.std.specs.Prelude.{◌≡◌, ◌^◌, ◌<◌, length, vec_len, Some, Contains, IfOk, IfSome};
+ghost use Rattle.std.specs.Prelude.{◌≡◌, ◌^◌, ◌<◌, List, length, vec_len, Some, Contains, IfOk, IfSome};
 ghost use Rattle.std.specs.Iterator.{YieldsFirst, YieldsLast, UpTo, item_count};
 ghost use Rattle.std.specs.Iterator.Runs.{YieldsInOrder, YieldsInReverse};
 ghost use Rattle.dary_heap.specs.Sizes.{HintsExactly};
@@ -19,9 +19,7 @@ use std::marker::Model;
 ///
 /// ```
 /// use dary_heap::BinaryHeap;
-///
-/// let heap = BinaryHeap::from(vec![in alloc; 4, 3, 2, 1]?);
-/// let mut items = heap.into_iter();
+/// let mut items = BinaryHeap::from(vec![in alloc; 4, 3, 2, 1]?).into_iter();
 /// assert_eq!(rt; items.next(), Some(4));
 /// assert_eq!(rt; items.next_back(), Some(1));
 /// assert_eq!(rt; items.len(), 2);
@@ -32,8 +30,6 @@ pub struct IntoIter<T> {
 }
 
 impl<T> Model for IntoIter<T> {
-    ghost use Rattle.std.specs.Prelude.{List};
-
     ghost Value = { List T };
 
     ghost view = { λ it. it.rest.items };
@@ -49,7 +45,7 @@ impl<T> IntoIter<T> {
         }
     }
 
-    /// Returns an iterator over clones of what is left.
+    /// Returns an iterator over clones of what is left. Makes no comparison.
     ///
     /// # Preconditions
     ///
@@ -63,17 +59,10 @@ impl<T> IntoIter<T> {
     ///
     /// ```
     /// use dary_heap::BinaryHeap;
-    ///
     /// let mut items = BinaryHeap::from(vec![in alloc; 1, 2, 3]?).into_iter();
+    /// assert_eq!(rt; items.clone()?.next(), Some(3));
     /// assert_eq!(rt; items.next(), Some(3));
-    /// let mut copy = items.clone()?;
-    /// assert_eq!(rt; copy.next(), Some(2));
-    /// assert_eq!(rt; items.len(), 2);
     /// ```
-    ///
-    /// # Time
-    ///
-    /// No comparison.
     pub fn clone(&self) -> Result<Self, AllocError>
     where
         T: Clone + Drop,
@@ -127,21 +116,16 @@ impl<T: fmt::Debug> fmt::Debug for IntoIter<T> {
 }
 
 /// Returns an iterator over the items, in the order in which they are stored. It allocates no
-/// memory.
+/// memory. Makes no comparison.
 ///
 /// # Examples
 ///
 /// ```
 /// use dary_heap::BinaryHeap;
-///
 /// let heap = BinaryHeap::from(vec![in alloc; 1, 2, 3]?);
 /// let items: Vec<i32> = heap.into_iter().collect(alloc)?;
 /// assert_eq!(rt; items.as_slice(), [3, 2, 1].as_slice());
 /// ```
-///
-/// # Time
-///
-/// No comparison.
 impl<T: Ord + Drop, const D: usize> IntoIterator for DaryHeap<T, D> {
     type Item = T;
 

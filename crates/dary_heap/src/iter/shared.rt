@@ -1,5 +1,6 @@
 //! The iterator that lends the items of a heap.
-ghost use Rattle.std.specs.Prelude.{◌≡◌, ◌^◌, ◌<◌, [], length, Some, IfSome, ⊤};
+ghost use Rattle.std.specs.Prelude.{◌≡◌, ◌^◌, ◌<◌, [], List, length, Some, IfSome, ⊤};
+ghost use Rattle.std.specs.Slice.Iter.{iter_rest};
 ghost use Rattle.std.specs.Iterator.{YieldsFirstRef, YieldsLastRef, UpTo, item_count};
 ghost use Rattle.std.specs.Iterator.Runs.{YieldsRefsInOrder, YieldsRefsInReverse};
 ghost use Rattle.dary_heap.specs.Sizes.{HintsExactly};
@@ -18,12 +19,8 @@ use std::{fmt, slice};
 ///
 /// ```
 /// use dary_heap::TernaryHeap;
-///
 /// let heap = TernaryHeap::from(vec![in alloc; 1, 2, 3]?);
-/// let mut seen = Vec::new(alloc);
-/// for item in &heap {
-///     seen.push(*item)?;
-/// }
+/// let seen: Vec<i32> = heap.iter().copied().collect(alloc)?;
 /// assert_eq!(rt; seen.as_slice(), [3, 2, 1].as_slice());
 /// ```
 #[derive(Drop)]
@@ -32,9 +29,6 @@ pub struct Iter<'a, T> {
 }
 
 impl<'a, T> Model for Iter<'a, T> {
-    ghost use Rattle.std.specs.Prelude.{List};
-    ghost use Rattle.std.specs.Slice.Iter.{iter_rest};
-
     ghost Value = { List T };
 
     ghost view = { λ it. iter_rest it.rest };
@@ -42,22 +36,18 @@ impl<'a, T> Model for Iter<'a, T> {
 
 impl<T: Ord, const D: usize> DaryHeap<T, D> {
     /// Returns an iterator over references to the items, in the order in which they are stored.
+    /// Makes no comparison.
     ///
     /// # Examples
     ///
     /// ```
     /// use dary_heap::BinaryHeap;
-    ///
     /// let heap = BinaryHeap::from(vec![in alloc; 4, 3, 2, 1]?);
     /// let mut items = heap.iter();
     /// assert_eq!(rt; items.next(), Some(&4));
     /// assert_eq!(rt; items.next_back(), Some(&1));
     /// assert_eq!(rt; items.len(), 2);
     /// ```
-    ///
-    /// # Time
-    ///
-    /// No comparison.
     pub fn iter(&self) -> Iter<'_, T>
         ensures items { result ≡ self.now.items }
         ensures fits { length result < 2 ^ 64 }
@@ -106,23 +96,16 @@ impl<T> ExactSizeIterator for Iter<'_, T> {
 
 impl<T> FusedIterator for Iter<'_, T> {}
 
-/// Returns another iterator over what is left.
-///
-/// # Errors
-///
-/// None: it allocates no memory.
+/// Returns another iterator over what is left. It allocates no memory, and doesn't fail.
 ///
 /// # Examples
 ///
 /// ```
 /// use dary_heap::BinaryHeap;
-///
 /// let heap = BinaryHeap::from(vec![in alloc; 1, 2, 3]?);
 /// let mut items = heap.iter();
+/// assert_eq!(rt; items.clone()?.next(), Some(&3));
 /// assert_eq!(rt; items.next(), Some(&3));
-/// let mut rest = items.clone()?;
-/// assert_eq!(rt; rest.next(), Some(&2));
-/// assert_eq!(rt; items.next(), Some(&2));
 /// ```
 impl<T> Clone for Iter<'_, T> {
     ghost is_clone = { λ it copy. copy ≡ it };
@@ -142,9 +125,7 @@ impl<T> Clone for Iter<'_, T> {
 ///
 /// ```
 /// use dary_heap::Iter;
-///
-/// let mut items: Iter<'_, i32> = Iter::default();
-/// assert_eq!(rt; items.next(), None);
+/// assert_eq!(rt; Iter::<i32>::default().next(), None);
 /// ```
 impl<T> Default for Iter<'_, T> {
     ghost is_default = { λ it. it ≡ [] };
@@ -168,15 +149,12 @@ impl<T: fmt::Debug> fmt::Debug for Iter<'_, T> {
 ///
 /// ```
 /// use dary_heap::BinaryHeap;
-///
 /// let heap = BinaryHeap::from(vec![in alloc; 1, 2, 3]?);
-/// let mut even = 0;
+/// let mut sum = 0;
 /// for item in &heap {
-///     if *item & 1 == 0 {
-///         even = *item;
-///     }
+///     sum += *item;
 /// }
-/// assert_eq!(rt; even, 2);
+/// assert_eq!(rt; sum, 6);
 /// ```
 impl<'a, T: Ord, const D: usize> IntoIterator for &'a DaryHeap<T, D> {
     type Item = &'a T;

@@ -5,13 +5,10 @@ ghost use Rattle.std.specs.Prelude.{◌≡◌, ℕ, List, vec_capacity};
 /// implements it: what a `drop` leaves behind a reference can be said only if the other fields are
 /// of a type parameter.
 pub trait Held<T> {
-    /// The items.
     ghost list: { Self → List T };
 
-    /// How many there is room for.
     ghost room: { Self → ℕ };
 
-    /// Returns the vector.
     fn into_vec(self) -> Vec<T>
         ensures items { result.items ≡ list self }
         ensures capacity { vec_capacity result ≡ room self };

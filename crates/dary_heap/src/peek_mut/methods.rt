@@ -18,31 +18,22 @@ use std::{fmt, mem};
 
 impl<T: Ord, const D: usize> DaryHeap<T, D> {
     /// Returns a greatest item for reading, writing or taking out, or `None` if the heap is empty.
+    /// Makes no comparison.
     ///
     /// It is the item that [`peek`](DaryHeap::peek) returns. [`PeekMut`] says what may be done with
-    /// it.
+    /// it, and how many comparisons its end takes.
     ///
     /// # Examples
     ///
     /// ```
     /// use dary_heap::QuaternaryHeap;
-    ///
-    /// let mut heap = QuaternaryHeap::new(alloc);
-    /// assert!(rt; heap.peek_mut().is_none());
-    ///
-    /// heap.push(3)?;
-    /// heap.push(9)?;
-    /// heap.push(6)?;
+    /// let mut heap = QuaternaryHeap::from(vec![in alloc; 3, 9, 6]?);
     /// if let Some(mut greatest) = heap.peek_mut() {
     ///     assert_eq!(rt; *greatest, 9);
     ///     *greatest = 5;
     /// }
     /// assert_eq!(rt; heap.peek(), Some(&6));
     /// ```
-    ///
-    /// # Time
-    ///
-    /// No comparison. [`PeekMut`] says what its end takes.
     pub fn peek_mut(&mut self) -> Option<PeekMut<'_, T, D>>
         // If it returns `None` the heap stays as it is.
         ensures* unchanged { sem 𝓛 (RestsIfNone
@@ -76,13 +67,13 @@ impl<'a, T: Ord + Drop, const D: usize> PeekMut<'a, T, D> {
     /// Removes the item from the heap and returns it.
     ///
     /// The value is the one that was written last, even if another item is strictly greater. The
-    /// heap's capacity stays the same.
+    /// heap's capacity stays the same. The call takes at most as many comparisons as a
+    /// [`pop`](DaryHeap::pop) of the heap.
     ///
     /// # Examples
     ///
     /// ```
     /// use dary_heap::{BinaryHeap, PeekMut};
-    ///
     /// let mut heap = BinaryHeap::from(vec![in alloc; 1, 5, 2]?);
     /// if let Some(mut greatest) = heap.peek_mut() {
     ///     *greatest = 0;
@@ -90,10 +81,6 @@ impl<'a, T: Ord + Drop, const D: usize> PeekMut<'a, T, D> {
     /// }
     /// assert_eq!(rt; heap.as_slice(), [2, 1].as_slice());
     /// ```
-    ///
-    /// # Time
-    ///
-    /// At most as many comparisons as a [`pop`](DaryHeap::pop) of the heap.
     pub fn pop(this: PeekMut<'a, T, D>) -> T
         ensures first { front (loaned this.entry).items ≡ Some result }
         ensures bag { IsSameBag (loaned this.entry).items (result ∷ this.exit.0.now.items) }
@@ -121,26 +108,20 @@ impl<'a, T: Ord + Drop, const D: usize> PeekMut<'a, T, D> {
     /// greater.
     ///
     /// Afterwards the `PeekMut` is of the item that is now the first, which no other exceeds, and
-    /// counts as unwritten. If it returns `false` no item has moved.
+    /// counts as unwritten. If it returns `false` no item has moved. It takes as many comparisons
+    /// as the drop of a [`PeekMut`]: none if the item was not written, or is the only one.
     ///
     /// # Examples
     ///
     /// ```
     /// use dary_heap::BinaryHeap;
-    ///
     /// let mut heap = BinaryHeap::from(vec![in alloc; 1, 2, 3]?);
     /// if let Some(mut greatest) = heap.peek_mut() {
     ///     *greatest = 0;
     ///     assert!(rt; greatest.refresh());
     ///     assert_eq!(rt; *greatest, 2);
-    ///     *greatest = 42;
-    ///     assert!(rt; !greatest.refresh());
     /// }
     /// ```
-    ///
-    /// # Time
-    ///
-    /// As the drop of a [`PeekMut`]: no comparison if the item was not written, or is the only one.
     pub fn refresh(&mut self) -> bool
         ensures moved { IsTrue result ↔ IsExceeded T.cmp (loaned self.old).items }
         ensures bag { IsSameBag (loaned self.old).items (loaned self.new).items }
@@ -173,22 +154,16 @@ impl<'a, T: Ord + Drop, const D: usize> PeekMut<'a, T, D> {
     }
 }
 
-/// Returns the item: the heap's first one at the start, and then what was written last.
+/// Returns the item: the heap's first one at the start, and then what was written last. Makes no
+/// comparison.
 ///
 /// # Examples
 ///
 /// ```
 /// use dary_heap::BinaryHeap;
-///
 /// let mut heap = BinaryHeap::from(vec![in alloc; 1, 5, 2]?);
-/// if let Some(greatest) = heap.peek_mut() {
-///     assert_eq!(rt; *greatest, 5);
-/// }
+/// assert_eq!(rt; *heap.peek_mut().unwrap(), 5);
 /// ```
-///
-/// # Time
-///
-/// No comparison.
 impl<T: Ord, const D: usize> Deref for PeekMut<'_, T, D> {
     type Target = T;
 
@@ -199,26 +174,17 @@ impl<T: Ord, const D: usize> Deref for PeekMut<'_, T, D> {
     }
 }
 
-/// Returns the item for writing. From this call on it counts as written.
+/// Returns the item for writing. From this call on it counts as written. Makes no comparison.
 ///
 /// # Examples
 ///
 /// ```
 /// use dary_heap::BinaryHeap;
-/// use std::mem;
-///
 /// let mut heap = BinaryHeap::from(vec![in alloc; 1, 5, 2]?);
-/// if let Some(mut greatest) = heap.peek_mut() {
-///     assert_eq!(rt; mem::replace(&mut *greatest, 3), 5);
-/// }
+/// *heap.peek_mut().unwrap() = 3;
 /// assert_eq!(rt; heap.as_slice(), [3, 1, 2].as_slice());
 /// ```
-///
-/// # Time
-///
-/// No comparison.
 impl<T: Ord, const D: usize> DerefMut for PeekMut<'_, T, D> {
-    ghost use Rattle.std.specs.Borrow.{sem};
     ghost use Rattle.dary_heap.specs.Lending.{lends_first};
 
     ghost deref_mut_gives = { λ loan item. front (loaned loan).items ≡ Some item };
@@ -239,11 +205,9 @@ impl<T: Ord, const D: usize> DerefMut for PeekMut<'_, T, D> {
 ///
 /// ```
 /// use dary_heap::BinaryHeap;
-///
 /// let mut heap = BinaryHeap::from(vec![in alloc; 1, 5, 2]?);
-/// if let Some(greatest) = heap.peek_mut() {
-///     assert_eq!(rt; format!(in alloc; "{greatest:?}")?.as_str(), "PeekMut(5)");
-/// }
+/// let greatest = heap.peek_mut().unwrap();
+/// assert_eq!(rt; format!(in alloc; "{greatest:?}")?.as_str(), "PeekMut(5)");
 /// ```
 impl<T: Ord + fmt::Debug, const D: usize> fmt::Debug for PeekMut<'_, T, D> {
     fn fmt<W: fmt::Write>(&self, f: &mut fmt::Formatter<W>) -> fmt::Result {

@@ -19,7 +19,6 @@ impl Model for Work {
 }
 
 impl Work {
-    /// Nothing was done.
     pub(super) fn new() -> Work
         ensures examined { result.examined ≡ [] }
         ensures pushes { result.pushes ≡ 0 }
@@ -27,13 +26,11 @@ impl Work {
         Work {}
     }
 
-    /// An edge is examined.
     pub(super) fn add_edge(&mut self, edge: &Edge)
         ensures examined { self.new.examined ≡ self.old.examined ++ edge.now ∷ [] }
         ensures pushes { self.new.pushes ≡ self.old.pushes }
     {}
 
-    /// A state is pushed.
     pub(super) fn add_push(&mut self)
         ensures examined { self.new.examined ≡ self.old.examined }
         ensures pushes { self.new.pushes ≡ self.old.pushes + 1 }

@@ -12,7 +12,6 @@ ghost use Rattle.dary_heap.specs.Choosing.{Chooses, FindsGreatestChild, IsAt, Is
 use super::Judge;
 use crate::hole::Hole;
 
-/// Returns a place with its item.
 #[inline(always)]
 fn item_at<T>(hole: &Hole<T>, place: usize) -> (usize, &T)
     requires { IsBelow hole.now place (place + 1) }
@@ -49,7 +48,7 @@ fn place_of_two<T, J: Judge<T>>(hole: &Hole<T>, first: usize, judge: &mut J) -> 
     first + judge.at_most(hole.get(first), hole.get(first + 1)) as usize
 }
 
-/// Returns the last greatest of two items with its place.
+/// Returns the last greatest of two items with its place. The next three choose among more.
 #[inline(always)]
 fn greatest_of_two<'a, T, J: Judge<T>>(
     hole: &'a Hole<T>,
@@ -63,7 +62,6 @@ fn greatest_of_two<'a, T, J: Judge<T>>(
     greater_of(item_at(hole, first), item_at(hole, first + 1), judge)
 }
 
-/// Returns the last greatest of three items with its place.
 #[inline(always)]
 fn greatest_of_three<'a, T, J: Judge<T>>(
     hole: &'a Hole<T>,
@@ -78,7 +76,6 @@ fn greatest_of_three<'a, T, J: Judge<T>>(
     greater_of(left, item_at(hole, first + 2), judge)
 }
 
-/// Returns the last greatest of four items with its place.
 #[inline(always)]
 fn greatest_of_four<'a, T, J: Judge<T>>(
     hole: &'a Hole<T>,
@@ -94,7 +91,6 @@ fn greatest_of_four<'a, T, J: Judge<T>>(
     greater_of(left, right, judge)
 }
 
-/// Returns the last greatest of eight items with its place.
 #[inline(always)]
 fn greatest_of_eight<'a, T, J: Judge<T>>(
     hole: &'a Hole<T>,

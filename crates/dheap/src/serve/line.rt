@@ -6,6 +6,8 @@ ghost use Rattle.dheap.specs.Script.{IsFirstLine, Says, is_blank, words_of};
 ghost use Rattle.dheap.specs.Words.{IsCount, IsNumber};
 ghost use Rattle.dheap.specs.declared.serve.line.Line.{Line};
 
+use std::str;
+
 /// A good line.
 #[derive(Clone, Copy, Debug, PartialEq, Eq)]
 pub enum Line {
@@ -33,16 +35,12 @@ impl Line {
         ensures { MatchOption result ((l : Line) → ¬ (Says (words_of line.now) l))
             (Says (words_of line.now)) }
     {
-        let Some((name, after)) = first_word(line) else {
-            return Some(Line::Blank);
-        };
-        let Some((argument, after)) = first_word(after) else {
-            return alone(name);
-        };
-        if first_word(after).is_some() {
-            return None;
+        match first_words(line) {
+            (None, _, _) => Some(Line::Blank),
+            (Some(name), None, _) => alone(name),
+            (Some(name), Some(argument), None) => with_argument(name, argument),
+            _ => None,
         }
-        with_argument(name, argument)
     }
 }
 
@@ -112,19 +110,20 @@ fn leading_digits(script: &[u8]) -> (u64, usize)
     (number, most)
 }
 
-/// The first word, and what comes after it, if there is a word.
-fn first_word(line: &[u8]) -> Option<(&[u8], &[u8])>
-    ensures { MatchOption result (words_of line.now ≡ [])
-        (λ found. words_of line.now ≡ found.0.now ∷ words_of found.1.now) }
+/// The first three words, as far as there are so many.
+fn first_words(line: &[u8]) -> (Option<&[u8]>, Option<&[u8]>, Option<&[u8]>)
+    ensures { MatchOption result.0 (words_of line.now ≡ [])
+        (λ first. MatchOption result.1 (words_of line.now ≡ first.now ∷ [])
+        (λ second. MatchOption result.2 (words_of line.now ≡ first.now ∷ second.now ∷ [])
+        (λ third. 2 < length (words_of line.now)))) }
 {
-    let Some(start) = line.iter().position(|byte| !is_blank(*byte)) else {
-        return None;
-    };
-    let word = &line[start..];
-    match word.iter().position(|byte| is_blank(*byte)) {
-        Some(end) => Some((&word[..end], &word[end + 1..])),
-        None => Some((word, &[])),
-    }
+    let mut words = line
+        .split(|byte| is_blank(*byte))
+        .filter(|word| !word.is_empty());
+    let first = words.next();
+    let second = words.next();
+    let third = words.next();
+    (first, second, third)
 }
 
 /// Whether a byte parts words.
@@ -161,57 +160,17 @@ fn with_argument(name: &[u8], argument: &[u8]) -> Option<Line>
 }
 
 /// The number that a word writes, if it does.
+#[tactic(auto, using(crate::proofs::Plain::no_number))]
 fn number(word: &[u8]) -> Option<i64>
     ensures { SomeIff result (IsNumber word.now) (signed_digits_value 10 word.now) }
 {
-    if let [b'-', digits @ ..] = word {
-        return 0i64.checked_sub_unsigned(natural(digits)?);
-    }
-    0i64.checked_add_unsigned(natural(without_plus(word))?)
+    str::from_utf8(word).ok()?.parse::<i64>().ok()
 }
 
 /// The count that a word writes, if it does.
+#[tactic(auto, using(crate::proofs::Plain::no_count))]
 fn count(word: &[u8]) -> Option<usize>
     ensures { SomeIff result (IsCount word.now) (digits_value 10 (without_leading_plus word.now)) }
 {
-    Some(natural(without_plus(word))? as usize)
-}
-
-/// What comes after a plus, or all if none stands first.
-fn without_plus(word: &[u8]) -> &[u8]
-    ensures { result.now ≡ without_leading_plus word.now }
-{
-    match word {
-        [b'+', rest @ ..] => rest,
-        _ => word,
-    }
-}
-
-/// The number that decimal digits write, if there are only such, at least one, and it is in range.
-fn natural(digits: &[u8]) -> Option<u64>
-    ensures { SomeIff result (IsNumeral 10 digits.now × (digits_value 10 digits.now < 2 ^ 64))
-        (digits_value 10 digits.now) }
-{
-    if digits.is_empty() {
-        return None;
-    }
-    let mut number = 0;
-    for digit in digits {
-        let Some(more) = with_digit(number, *digit) else {
-            return None;
-        };
-        number = more;
-    }
-    Some(number)
-}
-
-/// The number that one more digit makes of a number, if it is a digit and the number is in range.
-fn with_digit(number: u64, digit: u8) -> Option<u64>
-    ensures { SomeIff result (IsInRange 48 57 digit × (number * 10 + (digit - 48) < 2 ^ 64))
-        (number * 10 + (digit - 48)) }
-{
-    if !digit.is_ascii_digit() {
-        return None;
-    }
-    number.checked_mul(10)?.checked_add(u64::from(digit - b'0'))
+    str::from_utf8(word).ok()?.parse::<usize>().ok()
 }

@@ -1,6 +1,5 @@
 -- `with_places` opens the slice, hands its places and the reference to `f`, and closes the slice at the places that come back. Assumes `Logic`.
-use Rattle.dary_heap.proofs.hole.Walks.{ℕ, List, [], ◌∷◌, ◌++◌, ◌≡◌, refl, sym, subst, ap, ◌∙◌, length, Ura, ftrue, flft, emp, id⊢, inst_fn, Args, Dict, a_type, dnil, dcons, method, no_args, Val, vstruct, of_list, Model, WpFn, ◌⊑◌, Lfts, fact, fact_i, Running, MachineTables, tables, Logic, ‵, raw, ◌⊛◌, some, later, ◌$◌, ◌∵◌, !, qed, move, keep, use0, use1, split, split3, group, pick, fsplit, fsplit3, fpick, feq_l, suffices, await, done, whole, sub, agg, stop, fld, hop, from, addr, no_more, and_then, of_opd, returns, enter, alloc_all, pass_all, free_all, look_at, look_in_at, get, get_in, through, sets, lands_as, no, Are, Ises, layout, bounded, param, one_value, RattleType, mirs, owns, as_fields, block_ptr, MutBor, mut_vals, pure_i, plain, types_at, Room, slice_val, mut_slice_vals, mut_slice_at, heard, nothing, only, Tuple, Clauses, Ended, Lasts, lasts, Vals, Stays, stay_slice, stay_dropped, gave_ref, Goes-slice, Goes-gave_ref, Goes-dropped, walk_of, ends_at, says, proved_at, El, R, el_x, Good, lawful}
-use denote.Param.Call as call
+use Rattle.dary_heap.proofs.hole.{ℕ, List, [], ◌∷◌, ◌++◌, ◌≡◌, refl, sym, subst, ap, ◌∙◌, length, Ura, ftrue, flft, emp, id⊢, inst_fn, Args, Dict, a_type, dnil, dcons, method, no_args, Val, vstruct, of_list, Model, WpFn, ◌⊑◌, Lfts, fact, fact_i, Running, MachineTables, tables, Logic, ‵, raw, ◌⊛◌, some, later, ◌$◌, ◌∵◌, !, qed, move, keep, use0, use1, split, split3, group, pick, fsplit, fsplit3, fpick, feq_l, suffices, await, done, whole, sub, agg, stop, fld, hop, from, addr, no_more, and_then, of_opd, returns, enter, alloc_all, pass_all, free_all, look_at, look_in_at, get, get_in, through, sets, lands_as, no, Are, Ises, layout, bounded, param, one_value, RattleType, mirs, owns, as_fields, block_ptr, MutBor, mut_vals, pure_i, plain, types_at, Room, slice_val, mut_slice_vals, mut_slice_at, heard, nothing, only, Tuple, Clauses, Ended, Lasts, lasts, Vals, Stays, stay_slice, stay_dropped, gave_ref, Goes-slice, Goes-gave_ref, Goes-dropped, walk_of, ends_at, says, proved_at, El, R, el_x, Good, lawful, true, ◌<◌, ◌^◌, length-replicate, get_or-replicate, full_share, slots, of_row, to_row, Ptr, rewrite, two_words, words, words_fit, Whole, full_row, row_of, row_out, row_in}
 use denote.Triple.Call.{calls_at}
 use denote.Triple.Entry.{Args as Passed}
 use denote.Triple.Spec.{triple_of}
@@ -8,13 +7,15 @@ use denote.Triple.Statement.{Triple, Contract}
 use denote.Triple.Table.{framed}
 use Rattle.dary_heap.specs.Hole.{IsSameSlice}
 use Rattle.dary_heap.specs.declared.hole.places.Places.{Places}
+use Rattle.dary_heap.specs.contracts.hole.with_places.Key.{name}
+use Rattle.dary_heap.proofs.shortest_path.WalksAt.{Walk, one_valued}
+use Rattle.dary_heap.proofs.hole.with_places.Statement.{statement}
+use denote.Index.{row as row_at, opens_slice, closes_slice}
+use Rattle.dary_heap.specs.Places.{all_filled}
+use denote.Param.Call as call
 use Rattle.dary_heap.specs.contracts.hole.with_places as f
 use Rattle.dary_heap.specs.contracts.hole.with_places.F-FnOnce as taken
-use Rattle.dary_heap.specs.contracts.hole.with_places.Key.{name}
-use Rattle.dary_heap.proofs.hole.PlacesOwned.{two_words, words, words_fit, Whole, full_row, lent_as_row, row_back}
-use Rattle.dary_heap.proofs.shortest_path.WalksAt.{Walk, one_valued}
 use Rattle.dary_heap.proofs.hole.with_places.Code as code
-use Rattle.dary_heap.proofs.hole.with_places.Statement.{statement}
 
 -- of an item type, the state, what `f` returns beside the places, and its own type
 module _ (I S Y F : El) (g : taken.Ghosts I.row S.row Y.row F.row) (d d' : Dict) where
@@ -77,7 +78,8 @@ module _ (I S Y F : El) (g : taken.Ghosts I.row S.row Y.row F.row) (d d' : Dict)
           enter ! _ _ _ _ _ $ alloc_all ! (λ l. pass_all ! refl ((tt, words_fit b o (length xs) room.0), ((tt, tt), (gw, tt))) $
           sets ! (of_opd ! (get_in ! (fld ! refl (stop !)) (sub ! 1 refl (whole !)))) refl (tt, record { fits = room.0 }) $
           sets ! (addr ! (from ! (fld ! refl (hop ! (look_in_at ! 1 (sub ! 0 refl (whole !))) (stop !))))) refl (tt, tt) $
-          lent_as_row I ! tt b o xs room $
+          opens_slice ! tt (R I) xs b o $ use1 𝓛 (‵ (slots (R I) (block_ptr b o) xs (all_filled (length xs)))) (of_row I 𝓛 b xs o) $
+          row_in I ! b o (length xs) xs (all_filled (length xs)) room $
           -- [the row; the slice's open borrow, in three entries; f; the reference; the tokens; the facts]
           sets ! (of_opd ! (get ! refl)) refl gw $
           sets ! (agg ! (and_then ! (get ! refl) (and_then ! (get ! refl) (no_more !)))) refl (tt, words_fit b o (length xs) room.0) $
@@ -91,7 +93,12 @@ module _ (I S Y F : El) (g : taken.Ghosts I.row S.row Y.row F.row) (d d' : Dict)
           await ! tt $ pick ! (λ out. split ! $ move ! (1 ∷ []) $ pick ! (λ ws. split ! $ move ! (1 ∷ []) $ heard ! (Gives out ws) (λ gave.
           let back : Places (el_x I) = out.0 in let kept : IsSameSlice row back = same row a.1.0 out (now ws) refl gave in
           move ! (1 ∷ []) $ split ! $ move ! (1 ∷ []) $ fpick ! (λ vss. fsplit ! $ feq_l ! (λ pair_is. fsplit3 ! $ move ! (0 ∷ 5 ∷ 6 ∷ 7 ∷ []) $
-          row_back I ! tt b o xs room back vss.0 kept (λ back_is short. move ! (3 ∷ []) $ one_valued Y ! out.1 vss.1.0 (λ r gr result_is.
+          -- the slice is closed at the row that comes back
+          let n : ℕ = back.len in let many : length (all_filled n) ≡ n = length-replicate n true in
+          rewrite ! 0 (λ (p : Ptr). ‵ (row_of I p n back.items (all_filled n) vss.0)) kept.slice refl $ row_out I ! b o n back.items (all_filled n) vss.0 (λ back_is room'.
+          use1 𝓛 (‵ (row_at (R I) full_share back.items b o)) (to_row I 𝓛 b back.items (all_filled n) o (many ∙ back.ok)
+          (λ i below. get_or-replicate n i true _ (subst (λ (m : ℕ). i < m) many below))) $
+          closes_slice ! tt (R I) xs back.items kept.len b o $ let short : n < 2 ^ 64 = room'.0 in move ! (3 ∷ []) $ one_valued Y ! out.1 vss.1.0 (λ r gr result_is.
           -- [the result; the slice's borrow, in two entries; its token; nothing; the other tokens; the reference]
           let back_val : Val = two_words (block_ptr b o) back.len in
           lands_as ! (ap only pair_is ∙ (λ i. vstruct (of_list (back_is i ++ (result_is i ++ []))))) refl (as_fields (mirs (Whole I ∷ param 2 Y.row ∷ [])) (back_val ∷ r ∷ []) ((tt, words_fit b o back.len short), (gr, tt))) $

@@ -1,5 +1,6 @@
-use Rattle.dary_heap.proofs.Common.{ap, Contents}
-use Rattle.dary_heap.proofs.run.ServingMany.{appended, append_refused}
+use Rattle.dary_heap.proofs.Common.{ap, refl, arith, Contents}
+use Rattle.dary_heap.proofs.Fronts.{same_state}
+use Rattle.dary_heap.proofs.run.Serving.{serves_same, appended}
 use Rattle.dary_heap.proofs.run.append.Goals as goal
 
 pub returns-in-Ok : goal.returns-in-Ok
@@ -8,4 +9,4 @@ returns-in-Ok g c = let e = c.in-Ok.ensures in appended g.met.T.Ord.total _ _ _ 
 pub returns-in-Err : goal.returns-in-Err
 returns-in-Err g c =
     let e = c.in-Err.ensures in
-    append_refused g.met.T.Ord.total _ _ _ _ e.unchanged (ap (λ (it : Contents g.row.T.Denot). it.items) e.other_unchanged) e.ordered
+    serves_same e.unchanged e.ordered (same_state _ _ (ap (λ (it : Contents g.row.T.Denot). it.items) e.other_unchanged), same_state _ _ refl) tt (omega arith)

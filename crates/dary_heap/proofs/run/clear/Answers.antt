@@ -1,5 +1,6 @@
-use Rattle.dary_heap.proofs.run.ServingMany.{cleared}
+use Rattle.dary_heap.proofs.Common.{refl, arith}
+use Rattle.dary_heap.proofs.run.Serving.{serves_emptied}
 use Rattle.dary_heap.proofs.run.clear.Goals as goal
 
 pub returns : goal.returns
-returns g c = let e = c.clear.ensures in cleared g.met.T.Ord.total _ _ e.items e.uncounted
+returns g c = let e = c.clear.ensures in serves_emptied e.items refl (record { rises = omega (arith, e.uncounted); within = omega (arith, e.uncounted) }) tt (omega arith)

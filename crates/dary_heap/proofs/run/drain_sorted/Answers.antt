@@ -1,45 +1,75 @@
-use Rattle.dary_heap.proofs.Common.{rules, ◌≡◌, ℕ, ◌+◌, ◌≤◌, ◌∷◌, [], length, min, Some, refl, sym, ap, ◌∙◌, subst, arith, length-append, RisesWithin, Contents, drained_heap, IsPop}
-use Rattle.dary_heap.proofs.run.ServingDrains.{PopsThrough, PopsThrough-more, IsPop-step, popped_counted, popped_some, sorted_refused, drained_sorted}
+use Rattle.dary_heap.proofs.Common.{rules, ◌≡◌, length, min, refl, sym, ap, arith, nil_from_length, Contents, drained_heap, ℕ, zero, suc, ◌+◌, ◌<◌, ◌≤◌, Bool, List, [], ◌∷◌, ◌∙◌, Option, Some, None, IsSome, IsTotalOrder, Ordering, Yields, RisesWithin, pops_bound, Command, Reply, PopsInTurn, IsPop, Serves}
+use Rattle.std.proofs.iter.Next.{Yields-more}
+use Rattle.dary_heap.specs.DrainSorted.{DrainsSorted}
+use Rattle.dary_heap.proofs.Fronts.{same_state, ordered_state}
+use Rattle.dary_heap.proofs.run.Serving.{serves_emptied, serves_same}
+use Rattle.dary_heap.proofs.iter.Popping.{keeps_heap_along, pops_bound_step}
+use Rattle.dary_heap.specs.declared.iter.drain_sorted.DrainSorted.{DrainSorted}
+use Rattle.dary_heap.proofs.Order.{read}
 use Rattle.dary_heap.proofs.run.drain_sorted.Goals as goal
+
+module _ {X : Type 0} (cmp : X → X → Ordering) {D : ℕ} where
+  -- as many as were wanted, or all
+  drained_in_turn : IsTotalOrder cmp → (k : ℕ) (first : DrainSorted X D) (taken : List X) (later : DrainSorted X D) → Yields (DrainsSorted cmp) first taken later → length taken ≤ k → (length taken < k → (drained_heap later).items ≡ []) → PopsInTurn cmp (drained_heap first).items k taken
+  drained_in_turn total zero first [] later run few all = refl
+  drained_in_turn total zero first (m ∷ taken) later run few all = absurd (omega arith)
+  drained_in_turn total (suc k) first [] later run few all = ap (λ (it : DrainSorted X D). (drained_heap it).items) run ∙ all (omega arith)
+  drained_in_turn total (suc k) first (m ∷ taken) later run few all =
+      let pop = run.1.0 in
+      ((drained_heap run.0).items, (sym pop.first, pop.bag, ordered_state total D _ pop.ordered), drained_in_turn total k run.0 taken later run.2 (omega arith) (λ fewer. all (omega arith)))
+
+  drained_counts : (first : DrainSorted X D) (taken : List X) (later : DrainSorted X D) → Yields (DrainsSorted cmp) first taken later → (length taken + length (drained_heap later).items ≡ length (drained_heap first).items) × RisesWithin (drained_heap first).comparisons ((drained_heap later).comparisons + pops_bound D (length (drained_heap later).items)) (pops_bound D (length (drained_heap first).items)) × ((drained_heap first).comparisons ≤ (drained_heap later).comparisons)
+  drained_counts first [] later run = rw run (omega arith, record { rises = omega arith; within = omega arith }, omega arith)
+  drained_counts first (m ∷ taken) later run =
+      let old = drained_heap first in
+      let pop = run.1.0 in
+      let h = drained_counts run.0 taken later run.2 in
+      let some : 0 < length old.items = omega (arith, pop.greatest.occurs.1) in
+      let fewer = rw pop.len at (h.1) in (
+        omega (arith, h.0, pop.len),
+        record { rises = omega (arith, h.2, pop.counted.rises); within = omega (arith, pop.counted.within, fewer.within, pops_bound_step D (length old.items) some) },
+        omega (arith, h.2, pop.counted.rises),
+      )
+
+-- where there is an item a pop gives one
+popped_some : {X : Type 0} {cmp : X → X → Ordering} {D : ℕ} (old new : Contents X) (r : Option X) → IsPop cmp D old r new → 0 < length old.items → IsSome r
+popped_some old new None pop some = let first = read old.items 0 some in let none : None ≡ Some first.0 = pop.first ∙ first.1 in cc
+popped_some old new (Some x) pop some = refl
+
+-- what an iterator leaves behind its reference is what the heap is then
+serves_behind : {X P : Type 0} {cmp : X → X → Ordering} {calls : P → X → Bool → P → Type 0} {D : ℕ} {old new : Contents X} {command : Command X P} {reply : Reply X} (end : Contents X) → new ≡ end → Serves cmp calls D old command reply end → Serves cmp calls D old command reply new
+serves_behind end same serves = rw same serves
 
 pub returns-in_default : goal.returns-in_default
 returns-in_default g c =
-    let wanted : min c.args.count (length c.args.heap.now.items) ≡ 0 → ⊥ = λ none. (let e : c.min-count.result ≡ 0 = omega (arith, c.min-count.ensures, c.len.ensures.len, none) in let r = c.in_default.ensures.succeeds e in cc) in
-    sorted_refused c.args.heap.now c.args.count wanted c.len.ensures.ordered
+    let failed : c.min-count.result ≡ 0 → ⊥ = λ none. (let succeeds = c.in_default.ensures.succeeds none in cc) in
+    serves_same refl c.len.ensures.ordered ((λ none. failed (omega (arith, c.min-count.ensures, c.len.ensures.len, ap length none))), (λ none. failed (omega (arith, c.min-count.ensures, none))), same_state _ _ refl) tt (omega arith)
 
 pub unwrap-requires : goal.unwrap-requires
 unwrap-requires g c =
     let before = c.loop.invariant in
-    popped_some (drained_heap c.loop.items) (drained_heap c.next.new.self) c.next.result c.next.ensures.steps.0 (omega (arith, c.loop-test.true, c.min-count.ensures, c.len.ensures.len, ap (λ (it : Contents g.row.T.Denot). length it.items) c.drain_sorted-items.ensures.heap, before.parts, before.long))
+    let begun = ap (λ (it : Contents g.row.T.Denot). length it.items) c.drain_sorted-items.ensures.heap in
+    popped_some (drained_heap c.loop.items) (drained_heap c.next.new.self) c.next.result c.next.ensures.steps.0 (omega (arith, c.loop-test.true, c.min-count.ensures, c.len.ensures.len, begun, (drained_counts g.T.Ord.cmp _ _ _ before.given).0, before.long))
 
 pub loop-preserved : goal.loop-preserved
 loop-preserved g c =
     let before = c.loop.invariant in
-    let x = c.unwrap.result in
-    let old = drained_heap c.loop.items in
-    let new = drained_heap c.next.new.self in
-    let pop : IsPop g.T.Ord.cmp g.row.D old (Some x) new = subst (λ r. IsPop g.T.Ord.cmp g.row.D old r new) c.unwrap.ensures c.next.ensures.steps.0 in
     record {
-      through = rw c.push_reserved.ensures.items (PopsThrough-more g.T.Ord.cmp _ c.loop.taken.items old.items x new.items before.through (IsPop-step g.met.T.Ord.total old new x pop));
-      parts = omega (arith, ap length c.push_reserved.ensures.items, length-append c.loop.taken.items (x ∷ []), pop.len, before.parts);
+      given = rw c.push_reserved.ensures.items (Yields-more (DrainsSorted g.T.Ord.cmp) _ _ c.loop.items c.unwrap.result _ before.given (rw c.unwrap.ensures at c.next.ensures.steps));
       long = omega arith;
       within = omega arith;
       space = omega arith;
-      rises = omega (arith, pop.counted.rises, before.rises);
-      counted = popped_counted old new x _ pop before.counted;
-      same_reference = c.next.ensures.steps.1 ∙ before.same_reference;
     }
-
--- what was counted until the end, and then
-counted_on : {old mid new left bound : ℕ} → old ≤ mid → mid + left ≤ old + bound → RisesWithin mid new left → RisesWithin old new bound
-counted_on rises before last = record { rises = omega (arith, rises, last.rises); within = omega (arith, before, last.within) }
 
 pub returns : goal.returns
 returns g c =
     let before = c.loop.invariant in
     let old = drained_heap c.drain_sorted-items.result in
     let begun = c.drain_sorted-items.ensures.heap in
+    let counts = drained_counts g.T.Ord.cmp _ _ _ before.given in
+    let last = c.drop-items.ensures.counted in
+    let same = keeps_heap_along g.T.Ord.cmp c.drain_sorted-items.result _ _ before.given in
     let items : length c.args.heap.now.items ≡ length old.items = ap (λ (it : Contents g.row.T.Denot). length it.items) (sym begun) in
     let long : length c.loop.taken.items ≡ min c.args.count (length old.items) = omega (arith, c.min-count.ensures, c.len.ensures.len, items, before.long, before.within, c.loop-test.false) in
-    rw (← begun) (drained_sorted old _ c.drop-items.new.self.0 c.args.count c.loop.taken.items (drained_heap c.loop.items).items (search rules) before.through long before.parts c.drop-items.ensures.items
-    (counted_on before.rises before.counted c.drop-items.ensures.counted))
+    let in_turn = drained_in_turn g.T.Ord.cmp g.met.T.Ord.total c.args.count _ c.loop.taken.items _ before.given (omega (arith, long)) (λ fewer. nil_from_length _ (omega (arith, long, counts.0))) in
+    rw (← begun) (serves_behind c.drop-items.new.self.0 (search (rules, same)) (serves_emptied c.drop-items.ensures.items (in_turn, refl) (record { rises = omega (arith, counts.2, last.rises); within = omega (arith, counts.1.within, last.within) }) tt (omega arith)))

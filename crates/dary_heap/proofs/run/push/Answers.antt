@@ -1,8 +1,20 @@
-use Rattle.dary_heap.proofs.run.Serving.{pushed, push_refused}
+use Rattle.dary_heap.proofs.Common.{◌∷◌, ◌++◌, [], refl, arith, length_permutation, IsPermutation-to_front, IsPermutation-trans}
+use Rattle.dary_heap.proofs.Bags.{IsAmong-same}
+use Rattle.dary_heap.proofs.Fronts.{same_state}
+use Rattle.dary_heap.proofs.run.Serving.{serves_same}
 use Rattle.dary_heap.proofs.run.push.Goals as goal
 
 pub returns-in-Ok : goal.returns-in-Ok
-returns-in-Ok g c = let e = c.in-Ok.ensures in pushed _ _ _ e.bag e.first e.ordered e.counted e.capacity
+returns-in-Ok g c =
+    let e = c.in-Ok.ensures in
+    record {
+      step = (e.bag, e.first);
+      charged = e.counted;
+      served = λ some. refl;
+      sure = omega (arith, length_permutation _ _ e.bag, e.capacity);
+      ordered = e.ordered;
+      among = IsAmong-same _ (c.args.heap.now.items ++ c.args.item ∷ []) _ (IsPermutation-trans _ _ _ (IsPermutation-to_front _ _) e.bag) (λ y in'. in');
+    }
 
 pub returns-in-Err : goal.returns-in-Err
-returns-in-Err g c = let e = c.in-Err.ensures in push_refused _ _ _ _ e.unchanged e.returned e.full e.ordered
+returns-in-Err g c = let e = c.in-Err.ensures in serves_same e.unchanged e.ordered (e.returned, same_state _ _ refl) (λ some. absurd (omega (arith, e.full))) (omega arith)

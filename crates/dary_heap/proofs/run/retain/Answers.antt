@@ -1,4 +1,4 @@
-use Rattle.dary_heap.proofs.run.ServingMany.{retained}
+use Rattle.dary_heap.proofs.run.Serving.{retained}
 use Rattle.dary_heap.proofs.run.retain.Goals as goal
 
 pub returns : goal.returns

@@ -1,8 +1,7 @@
-use Rattle.dary_heap.proofs.Common.{◌≡◌, List, [], ◌∷◌, ◌++◌, length, map, All, Contains, sym, ap, ◌∙◌, subst, arith, rules, inl, inr, append_assoc, append-nil, length-append, map-append, length-map, nil_from_length, Contains-append_left, Contains-append_right, Contains-append_cases, into_iter_items, IsCallableOn, items_in, predicates_in}
+use Rattle.dary_heap.proofs.Common.{◌≡◌, List, [], ◌∷◌, ◌++◌, length, map, All, Contains, sym, ap, ◌∙◌, subst, arith, rules, inl, inr, append_assoc, append-nil, length-append, map-append, nil_from_length, Contains-append_left, Contains-append_right, Contains-append_cases, into_iter_items, IsCallableOn, items_in, predicates_in}
 use Rattle.dary_heap.specs.Reading as read
-use Rattle.dary_heap.proofs.run.Asking.{callable_one, items_of_one}
+use Rattle.dary_heap.proofs.run.Runs.{callable_one, items_of_one, Runs-begins, Runs-more}
 use Rattle.dary_heap.proofs.Fronts.{ordered_state}
-use Rattle.dary_heap.proofs.run.Runs.{Runs-begins, Runs-more}
 use Rattle.dary_heap.proofs.run.run.Goals as goal
 
 -- what was read of a list of commands, where one of them stands
@@ -15,7 +14,6 @@ loop-command-init g c =
     record {
       split = sym gives.0;
       left = omega (arith, ap length gives.0, gives.1);
-      told = ap length c.in-Ok.ensures.items;
       space = omega (arith, ap length c.in-Ok.ensures.items, gives.1, c.len-2.ensures, c.in-Ok.ensures.capacity);
       runs = rw c.in-Ok.ensures.items (Runs-begins c.args.heap.now (ordered_state g.met.T.Ord.total g.row.D c.args.heap.now.items c.len.ensures.ordered));
       among = λ x in'. Contains-append_left c.args.heap.now.items _ x in';
@@ -40,16 +38,12 @@ loop-command-preserved g c =
     let rest = into_iter_items c.next.new.self in
     let is : all ≡ yielded ++ (command ∷ rest) = before.split ∙ ap (λ xs. yielded ++ xs) steps.0 in
     let seen = parted read.command all yielded command rest is in
-    let long : length (read.commands yielded) ≡ length (read.replies c.loop-command.replies.items) = length-map yielded read.command ∙ sym before.told ∙ sym (length-map c.loop-command.replies.items read.reply) in
-    let asked : read.commands (yielded ++ command ∷ []) ≡ read.commands yielded ++ read.command command ∷ [] = map-append read.command yielded (command ∷ []) in
-    let told : read.replies c.push_reserved.new.self.items ≡ read.replies c.loop-command.replies.items ++ read.reply c.serve.result ∷ [] =
-    ap (map read.reply) c.push_reserved.ensures.items ∙ map-append read.reply c.loop-command.replies.items (c.serve.result ∷ []) in
+    let replies = c.loop-command.replies.items in
     record {
       split = is ∙ sym (append_assoc yielded (command ∷ []) rest);
       left = omega (arith, ap length steps.0, steps.1, before.left);
-      told = omega (arith, ap length c.push_reserved.ensures.items, length-append c.loop-command.replies.items (c.serve.result ∷ []), length-append yielded (command ∷ []), before.told);
-      space = omega (arith, ap length c.push_reserved.ensures.items, length-append c.loop-command.replies.items (c.serve.result ∷ []), c.push_reserved.ensures.capacity, steps.1, before.space);
-      runs = rw (asked, told) (Runs-more c.args.heap.now c.loop-command.heap c.serve.new.heap (read.commands yielded) (read.replies c.loop-command.replies.items) (read.command command) (read.reply c.serve.result) long before.runs c.serve.ensures);
+      space = omega (arith, ap length c.push_reserved.ensures.items, length-append replies (c.serve.result ∷ []), c.push_reserved.ensures.capacity, steps.1, before.space);
+      runs = rw (c.push_reserved.ensures.items, map-append read.command yielded (command ∷ []), map-append read.reply replies (c.serve.result ∷ [])) (Runs-more before.runs c.serve.ensures);
       among = λ x in'. elim (Contains-append_cases c.loop-command.heap.items _ x (c.serve.ensures.among x in')) [
         | inl held ↦ before.among x held
         | inr brought ↦ Contains-append_right c.args.heap.now.items _ x (subst (λ cs. Contains (items_in cs) x) (sym seen) (items_of_one (read.commands yielded) (read.command command) (read.commands rest) x brought))

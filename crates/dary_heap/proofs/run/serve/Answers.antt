@@ -1,7 +1,5 @@
 use Rattle.dary_heap.proofs.Common.{rules, arith}
-use Rattle.dary_heap.proofs.run.Serving.{asks, callable_on_front}
-use Rattle.dary_heap.proofs.run.ServingMany.{pops_where}
-use Rattle.dary_heap.proofs.run.ServingPlain.{plain}
+use Rattle.dary_heap.proofs.run.Serving.{asks, callable_on_front, pops_where}
 use Rattle.dary_heap.proofs.run.serve.Goals as goal
 
 pub pop_if-requires : goal.pop_if-requires
@@ -28,37 +26,37 @@ returns-in-Ask g c =
     rw c.in-Ask.is (asks g.P.FnMut g.met.P.FnMut.1.post_iff c.args.heap.now c.in-Ask.predicate c.ask.result e.empty e.asked e.ordered)
 
 pub returns-in-Push : goal.returns-in-Push
-returns-in-Push g c = rw c.in-Push.is (plain _ _ _ _ c.push.ensures)
+returns-in-Push g c = rw c.in-Push.is (assumption c.push.ensures)
 
 pub returns-in-Pop : goal.returns-in-Pop
-returns-in-Pop g c = rw c.in-Pop.is (plain _ _ _ _ c.pop.ensures)
+returns-in-Pop g c = rw c.in-Pop.is (assumption c.pop.ensures)
 
 pub returns-in-Len : goal.returns-in-Len
-returns-in-Len g c = rw c.in-Len.is (plain _ _ _ _ c.len.ensures)
+returns-in-Len g c = rw c.in-Len.is (assumption c.len.ensures)
 
 pub returns-in-Retain : goal.returns-in-Retain
 returns-in-Retain g c = rw c.in-Retain.is c.retain.ensures
 
 pub returns-in-Extend : goal.returns-in-Extend
-returns-in-Extend g c = rw c.in-Extend.is (plain _ _ _ _ c.extend.ensures)
+returns-in-Extend g c = rw c.in-Extend.is (assumption c.extend.ensures)
 
 pub returns-in-Append : goal.returns-in-Append
-returns-in-Append g c = rw c.in-Append.is (plain _ _ _ _ c.append.ensures)
+returns-in-Append g c = rw c.in-Append.is (assumption c.append.ensures)
 
 pub returns-in-Reserve : goal.returns-in-Reserve
-returns-in-Reserve g c = rw c.in-Reserve.is (plain _ _ _ _ c.reserve.ensures)
+returns-in-Reserve g c = rw c.in-Reserve.is (assumption c.reserve.ensures)
 
 pub returns-in-Shrink : goal.returns-in-Shrink
-returns-in-Shrink g c = rw c.in-Shrink.is (plain _ _ _ _ c.shrink.ensures)
+returns-in-Shrink g c = rw c.in-Shrink.is (assumption c.shrink.ensures)
 
 pub returns-in-Clear : goal.returns-in-Clear
-returns-in-Clear g c = rw c.in-Clear.is (plain _ _ _ _ c.clear.ensures)
+returns-in-Clear g c = rw c.in-Clear.is (assumption c.clear.ensures)
 
 pub returns-in-Drain : goal.returns-in-Drain
-returns-in-Drain g c = rw c.in-Drain.is (plain _ _ _ _ c.drain.ensures)
+returns-in-Drain g c = rw c.in-Drain.is (assumption c.drain.ensures)
 
 pub returns-in-DrainSorted : goal.returns-in-DrainSorted
-returns-in-DrainSorted g c = rw c.in-DrainSorted.is (plain _ _ _ _ c.drain_sorted.ensures)
+returns-in-DrainSorted g c = rw c.in-DrainSorted.is (assumption c.drain_sorted.ensures)
 
 pub returns-in-Loan : goal.returns-in-Loan
-returns-in-Loan g c = rw c.in-Loan.is (plain _ _ _ _ c.loan.ensures)
+returns-in-Loan g c = rw c.in-Loan.is (assumption c.loan.ensures)

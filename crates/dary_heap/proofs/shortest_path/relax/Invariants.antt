@@ -1,10 +1,10 @@
-use Rattle.dary_heap.proofs.Common.{◌≡◌, ◌+◌, ◌≤◌, ◌++◌, take, Pushes, Relaxes}
+use Rattle.dary_heap.proofs.Common.{◌≡◌, ◌+◌, ◌≤◌, ◌++◌, length, take, Pushes, Relaxes}
 use Rattle.dary_heap.proofs.shortest_path.relax.Given as goal
 
 abbrev pub invariant-loop-edge : goal.invariant-loop-edge
 invariant-loop-edge l = record {
-  relaxes : Relaxes 18446744073709551615 l.cost (take l.edge-index l.edges.items) l.initial.found.items l.initial.heap.items l.found.items l.heap.items;
-  examined : l.work.examined ≡ l.initial.work.examined ++ take l.edge-index l.edges.items;
-  pushed : l.work.pushes ≤ l.initial.work.pushes + l.edge-index;
+  relaxes : Relaxes 18446744073709551615 l.cost (take l.edge-index l.edge-items) l.initial.found.items l.initial.heap.items l.found.items l.heap.items;
+  examined : l.work.examined ≡ l.initial.work.examined ++ take l.edge-index l.edge-items;
+  pushed : l.work.pushes + length l.initial.work.examined ≤ l.initial.work.pushes + length l.work.examined;
   pushes : Pushes l.edge-index l.initial.heap l.heap;
 }

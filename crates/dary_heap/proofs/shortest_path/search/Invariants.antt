@@ -1,4 +1,4 @@
-use Rattle.dary_heap.proofs.Common.{◌≡◌, ℕ, ◌+◌, ◌≤◌, List, length, all_edges_of}
+use Rattle.dary_heap.proofs.Common.{◌+◌, ◌≤◌, length}
 use Rattle.std.proofs.Common.{sum}
 use Rattle.dary_heap.proofs.shortest_path.Examining.{AreOnce, IsCharged}
 use Rattle.dary_heap.proofs.shortest_path.Searching.{IsSearch}
@@ -8,7 +8,7 @@ abbrev pub invariant-loop-cost : goal.invariant-loop-cost
 invariant-loop-cost l = record {
   search : IsSearch 18446744073709551615 l.adj_list.items l.start l.goal l.found.items l.heap.items;
   -- the edges of some nodes were examined, each node's once
-  once : (nodes : List ℕ) × AreOnce 18446744073709551615 l.found.items l.heap.items nodes × (all_edges_of l.adj_list.items nodes ≡ l.work.examined);
+  once : AreOnce 18446744073709551615 l.adj_list.items l.found.items l.heap.items l.work.examined;
   pushed : l.work.pushes ≤ length l.work.examined + 1;
   charged : IsCharged l.fn.heap.comparisons l.heap (length l.work.examined);
 }

@@ -1,6 +1,4 @@
-use Rattle.std.proofs.Common.{◌≡◌, ◌+◌, ◌^◌, ◌<◌, List, length, take, get_or, sym, ◌∙◌, subst, arith, refl, length-take-le}
-use Rattle.std.proofs.lemmas.List.{take_more}
-use Rattle.dary_heap_pieces.specs.declared.links.Link.{Link}
+use Rattle.dary_heap_pieces.proofs.Common.{◌≡◌, ◌+◌, ◌^◌, ◌<◌, List, length, take, get_or, sym, ◌∙◌, subst, arith, refl, length-take-le, take_more, Link}
 use Rattle.dary_heap_pieces.proofs.Linking.{IsWhole, IsWhole-push, wrapped}
 use Rattle.dary_heap_pieces.proofs.links.link_all.Goals as goal
 

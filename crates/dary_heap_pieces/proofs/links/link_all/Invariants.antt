@@ -1,4 +1,4 @@
-use Rattle.std.proofs.Common.{◌≤◌, length, take, vec_capacity}
+use Rattle.dary_heap_pieces.proofs.Common.{◌≤◌, length, take, vec_capacity}
 use Rattle.dary_heap_pieces.proofs.Linking.{IsWhole}
 use Rattle.dary_heap_pieces.proofs.links.link_all.Given as goal
 

@@ -1,10 +1,4 @@
-use Rattle.std.proofs.Common.{◌≡◌, ◌+◌, [], ◌∷◌, length, sym, ap, ◌∙◌, subst, arith}
-use Rattle.std.proofs.lemmas.Bool.{true≢false}
-use Rattle.std.proofs.lemmas.List.Sorted.{length_permutation}
-use Rattle.dary_heap.specs.Bounds.{RisesWithin}
-use Rattle.dary_heap.proofs.Callers.{has_none}
-use Rattle.dary_heap_pieces.specs.Links.{IsOffered, merging_bound, word_of}
-use Rattle.dary_heap_pieces.specs.Merging.{table_of}
+use Rattle.dary_heap_pieces.proofs.Common.{◌≡◌, ◌+◌, [], ◌∷◌, length, sym, ap, ◌∙◌, subst, arith, true≢false, length_permutation, RisesWithin, has_none, IsOffered, merging_bound, word_of, table_of}
 use Rattle.dary_heap_pieces.proofs.Counting.{turn_counted, all_counted}
 use Rattle.dary_heap_pieces.proofs.Steps.{IsFirst-popped, IsOffered-popped, LeadsTo-then, none_standing}
 use Rattle.dary_heap_pieces.proofs.merging.merge_all.Goals as goal
@@ -22,7 +16,7 @@ loop-rank-preserved c =
     let one : length c.pop.new.self.items + 1 ≡ length c.loop-rank.candidates.items = omega (arith, length_permutation c.loop-rank.candidates.items (c.in-Some.field-0 ∷ c.pop.new.self.items) c.in-Some.ensures.bag) in
     record {
       linked = tried.linked;
-      merged = (before.merged.0 + tried.merged.0, LeadsTo-then (table_of c.args.merges.now) before.merged.0 tried.merged.0 (word_of c.args.links.now) (word_of c.loop-rank.links) (word_of c.merge_candidate.new.links) before.merged.1 tried.merged.1);
+      merged = LeadsTo-then (table_of c.args.merges.now) before.merged.0 tried.merged.0 (word_of c.args.links.now) (word_of c.loop-rank.links) (word_of c.merge_candidate.new.links) before.merged.1 tried.merged.1;
       offered = tried.offered;
       left = λ some. tried.left (before.left some);
       shorter = omega (arith, before.shorter, tried.shorter);

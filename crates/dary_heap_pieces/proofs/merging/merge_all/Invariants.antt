@@ -1,7 +1,4 @@
-use Rattle.std.proofs.Common.{◌≡◌, ℕ, ◌+◌, ◌-◌, ◌*◌, ◌<◌, ◌≤◌, length}
-use Rattle.dary_heap.specs.Bounds.{RisesWithin, push_bound, pop_bound}
-use Rattle.dary_heap_pieces.specs.Links.{IsLinked, IsOffered, word_of}
-use Rattle.dary_heap_pieces.specs.Merging.{LeadsTo, table_of}
+use Rattle.dary_heap_pieces.proofs.Common.{◌≡◌, ℕ, ◌+◌, ◌-◌, ◌*◌, ◌<◌, ◌≤◌, length, RisesWithin, push_bound, pop_bound, IsLinked, IsOffered, word_of, LeadsTo, table_of}
 use Rattle.dary_heap_pieces.proofs.merging.merge_all.Given as goal
 
 -- the steps so far led here, each pair is offered, and there is room

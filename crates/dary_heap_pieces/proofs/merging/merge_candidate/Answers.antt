@@ -1,7 +1,4 @@
-use Rattle.std.proofs.Common.{◌≡◌, length, sym, ap, ◌∙◌, arith, refl}
-use Rattle.dary_heap_pieces.specs.Links.{word_of}
-use Rattle.dary_heap_pieces.specs.Merging.{table_of}
-use Rattle.dary_heap_pieces.specs.declared.table.Merge.{Merge}
+use Rattle.dary_heap_pieces.proofs.Common.{◌≡◌, length, sym, ap, ◌∙◌, arith, refl, word_of, table_of, Merge}
 use Rattle.dary_heap_pieces.proofs.Counting.{joined_counted}
 use Rattle.dary_heap_pieces.proofs.Steps.{IsMergedAt, IsOffered-stale, merged_at}
 use Rattle.dary_heap_pieces.proofs.merging.merge_candidate.Goals as goal

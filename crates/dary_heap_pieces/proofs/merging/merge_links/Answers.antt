@@ -1,6 +1,4 @@
-use Rattle.std.proofs.Common.{length, subst}
-use Rattle.dary_heap.specs.Bounds.{RisesWithin}
-use Rattle.dary_heap_pieces.specs.Links.{merging_bound}
+use Rattle.dary_heap_pieces.proofs.Common.{length, subst, RisesWithin, merging_bound}
 use Rattle.dary_heap_pieces.proofs.Counting.{total_counted}
 use Rattle.dary_heap_pieces.proofs.merging.merge_links.Goals as goal
 

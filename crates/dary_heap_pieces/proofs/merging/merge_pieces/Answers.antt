@@ -1,7 +1,4 @@
-use Rattle.std.proofs.Common.{◌≡◌, ◌++◌, List, ℕ, length, drop, sym, ap, ◌∙◌, subst, arith}
-use Rattle.std.proofs.lemmas.List.{take_at}
-use Rattle.dary_heap_pieces.specs.Links.{word_of}
-use Rattle.dary_heap_pieces.specs.Merging.{IsMerged, table_of}
+use Rattle.dary_heap_pieces.proofs.Common.{◌≡◌, ◌++◌, List, ℕ, length, drop, sym, ap, ◌∙◌, subst, arith, take_at, word_of, IsMerged, table_of}
 use Rattle.dary_heap_pieces.proofs.Steps.{IsMerged-only}
 use Rattle.dary_heap_pieces.proofs.merging.merge_pieces.Goals as goal
 

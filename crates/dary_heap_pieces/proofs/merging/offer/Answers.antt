@@ -1,7 +1,4 @@
-use Rattle.std.proofs.Common.{◌≡◌, Contains, ◌∙◌, subst}
-use Rattle.dary_heap.proofs.Callers.{came_first, came_later}
-use Rattle.dary_heap_pieces.specs.Links.{candidate}
-use Rattle.dary_heap_pieces.specs.declared.table.Merge.{Merge}
+use Rattle.dary_heap_pieces.proofs.Common.{◌≡◌, Contains, ◌∙◌, subst, came_first, came_later, candidate, Merge}
 use Rattle.dary_heap_pieces.proofs.merging.offer.Goals as goal
 
 pub returns-in-Some-clause-offered : goal.returns-in-Some-clause-offered

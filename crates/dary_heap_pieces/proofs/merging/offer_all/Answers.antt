@@ -1,8 +1,5 @@
-use Rattle.std.proofs.Common.{◌≡◌, ℕ, ◌+◌, ◌-◌, Contains, length, inl, inr, ap, ◌∙◌, subst, arith}
-use Rattle.std.proofs.lemmas.Bool.{cases_lt}
-use Rattle.dary_heap_pieces.specs.Links.{candidate, standing}
-use Rattle.dary_heap_pieces.specs.Merging.{table_of}
-use Rattle.dary_heap_pieces.proofs.Counting.{offered_counted, all_offered_counted, last_within}
+use Rattle.dary_heap_pieces.proofs.Common.{◌≡◌, ℕ, ◌+◌, ◌-◌, Contains, length, inl, inr, ap, ◌∙◌, subst, arith, cases_lt, candidate, standing, table_of}
+use Rattle.dary_heap_pieces.proofs.Counting.{offered_counted}
 use Rattle.dary_heap_pieces.proofs.Steps.{right_within}
 use Rattle.dary_heap_pieces.proofs.merging.offer_all.Goals as goal
 
@@ -26,9 +23,3 @@ loop-place-preserved c =
 
 pub returns-clause-offered : goal.returns-clause-offered
 returns-clause-offered c = record { each = λ p m is. c.loop-place.invariant.offered p (omega (arith, right_within (table_of c.args.merges.now) c.args.links.now c.requires.linked p m is, c.loop-place-test.false)) m is }
-
-pub returns-clause-len : goal.returns-clause-len
-returns-clause-len c = omega (arith, c.loop-place.invariant.len, last_within c.loop-place.place (length c.args.links.now) c.loop-place.auto.place-end c.loop-place.invariant.within)
-
-pub returns-clause-counted : goal.returns-clause-counted
-returns-clause-counted c = all_offered_counted (c.loop-place.place - 1) (length c.args.links.now - 1) (length c.args.links.now) (last_within c.loop-place.place (length c.args.links.now) c.loop-place.auto.place-end c.loop-place.invariant.within) c.loop-place.invariant.counted

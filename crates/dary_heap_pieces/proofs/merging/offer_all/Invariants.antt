@@ -1,8 +1,4 @@
-use Rattle.std.proofs.Common.{◌≡◌, ℕ, ◌+◌, ◌-◌, ◌*◌, ◌<◌, ◌≤◌, length, Contains, Some}
-use Rattle.dary_heap.specs.Bounds.{RisesWithin, push_bound}
-use Rattle.dary_heap_pieces.specs.Links.{candidate, standing}
-use Rattle.dary_heap_pieces.specs.Merging.{table_of}
-use Rattle.dary_heap_pieces.specs.declared.table.Merge.{Merge}
+use Rattle.dary_heap_pieces.proofs.Common.{◌≡◌, ℕ, ◌+◌, ◌-◌, ◌*◌, ◌<◌, ◌≤◌, length, Contains, Some, RisesWithin, push_bound, candidate, standing, table_of, Merge}
 use Rattle.dary_heap_pieces.proofs.merging.offer_all.Given as goal
 
 -- the pairs before the place are offered

@@ -1,5 +1,4 @@
-use Rattle.std.proofs.Common.{◌++◌, ◌∷◌, [], List, ℕ, None, Some, take, sym, ap, ◌∙◌, arith, append-nil, append_assoc}
-use Rattle.dary_heap_pieces.specs.Links.{word_of}
+use Rattle.dary_heap_pieces.proofs.Common.{◌++◌, ◌∷◌, [], List, ℕ, None, Some, take, sym, ap, ◌∙◌, arith, append-nil, append_assoc, word_of}
 use Rattle.dary_heap_pieces.proofs.Words.{word_of-more}
 use Rattle.dary_heap_pieces.proofs.merging.put_word.Goals as goal
 use Rattle.dary_heap_pieces.proofs.merging.put_word.Goals.{in-Some, in_default}

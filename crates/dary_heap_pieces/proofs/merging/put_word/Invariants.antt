@@ -1,5 +1,4 @@
-use Rattle.std.proofs.Common.{◌≡◌, ◌≤◌, ◌+◌, ◌++◌, take, vec_len, vec_capacity}
-use Rattle.dary_heap_pieces.specs.Links.{word_of}
+use Rattle.dary_heap_pieces.proofs.Common.{◌≡◌, ◌≤◌, ◌+◌, ◌++◌, take, vec_len, vec_capacity, word_of}
 use Rattle.dary_heap_pieces.proofs.merging.put_word.Given as goal
 
 abbrev pub invariant-loop-link : goal.invariant-loop-link

@@ -1,4 +1,4 @@
-use Rattle.std.proofs.Common.{◌≤◌, All, map}
+use Rattle.dary_heap_uses.proofs.Common.{◌≤◌, All, map}
 use Rattle.dary_heap_uses.proofs.calling.are_at_most.Given as goal
 
 -- the numbers so far are at most the bound

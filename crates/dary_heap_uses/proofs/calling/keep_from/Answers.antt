@@ -1,6 +1,4 @@
-use Rattle.std.proofs.Common.{refl, rules, leb, subst}
-use Rattle.std.proofs.lemmas.Fn.{filter_same}
-use Rattle.dary_heap.specs.Bag.{IsSameBag}
+use Rattle.dary_heap_uses.proofs.Common.{refl, rules, leb, subst, filter_same, IsSameBag}
 use Rattle.dary_heap_uses.proofs.calling.keep_from.Goals as goal
 
 pub returns-clause-kept : goal.returns-clause-kept

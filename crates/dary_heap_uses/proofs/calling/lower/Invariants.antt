@@ -1,6 +1,4 @@
-use Rattle.std.proofs.Common.{◌≡◌, false, length}
-use Rattle.std.specs.List.{sum_by}
-use Rattle.dary_heap.specs.PeekMut.{loaned, is_written, lender}
+use Rattle.dary_heap_uses.proofs.Common.{◌≡◌, false, length, sum_by, loaned, is_written, lender}
 use Rattle.dary_heap_uses.proofs.calling.lower.Given as goal
 
 abbrev pub invariant-loop-greatest : goal.invariant-loop-greatest

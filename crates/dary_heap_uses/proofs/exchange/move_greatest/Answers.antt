@@ -1,4 +1,4 @@
-use Rattle.dary_heap.proofs.Callers.{IsSameBag-moved}
+use Rattle.dary_heap_uses.proofs.Common.{IsSameBag-moved}
 use Rattle.dary_heap_uses.proofs.exchange.move_greatest.Goals as goal
 
 pub returns-clause-bag : goal.returns-clause-bag

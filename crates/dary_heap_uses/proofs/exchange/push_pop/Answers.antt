@@ -1,8 +1,4 @@
-use Rattle.std.proofs.Common.{rules, ◌≡◌, List, ◌∷◌, sym, ap, ◌∙◌, subst}
-use Rattle.dary_heap.specs.Bag.{IsGreatest}
-use Rattle.dary_heap.specs.Contents.{Contents}
-use Rattle.dary_heap.specs.PeekMut.{loaned}
-use Rattle.dary_heap.proofs.Callers.{cmp_from_lt, cmp_from_not_lt, not_greater-less, IsGreatest-overtaken, IsGreatest-stays, IsSameBag-written}
+use Rattle.dary_heap_uses.proofs.Common.{rules, ◌≡◌, List, ◌∷◌, sym, ap, ◌∙◌, subst, IsGreatest, Contents, loaned, cmp_from_lt, cmp_from_not_lt, not_greater-less, IsGreatest-overtaken, IsGreatest-stays, IsSameBag-written}
 use Rattle.dary_heap_uses.proofs.exchange.push_pop.Goals as goal
 
 pub returns-then-lt-clause-bag : goal.returns-then-lt-clause-bag

@@ -1,7 +1,5 @@
-use Rattle.std.proofs.Common.{ltb, leb, arith}
+use Rattle.dary_heap_uses.proofs.Common.{ltb, leb, arith, length_permutation, length-filter}
 use Rattle.std.proofs.lemmas.List.Filters.{length-filter_both}
-use Rattle.std.proofs.lemmas.List.Sorted.{length_permutation}
-use Rattle.std.proofs.lemmas.List.Sums.{length-filter}
 use Rattle.dary_heap_uses.proofs.from_std.cut.Goals as goal
 
 pub returns-clause-cut : goal.returns-clause-cut

@@ -1,7 +1,5 @@
-use Rattle.std.proofs.Common.{arith}
+use Rattle.dary_heap_uses.proofs.Common.{arith, length_permutation, IsGivenDescending-pop, descending_at, nat_le_from_cmp}
 use Rattle.std.proofs.lemmas.Cmp.{nat_cmp_total}
-use Rattle.std.proofs.lemmas.List.Sorted.{length_permutation}
-use Rattle.dary_heap.proofs.Callers.{IsGivenDescending-pop, descending_at, nat_le_from_cmp}
 use Rattle.dary_heap_uses.proofs.from_std.falling.Goals as goal
 
 pub loop-price-preserved : goal.loop-price-preserved

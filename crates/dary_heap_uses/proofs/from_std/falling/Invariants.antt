@@ -1,6 +1,4 @@
-use Rattle.std.proofs.Common.{◌+◌, ◌≤◌, length, vec_len, vec_capacity}
-use Rattle.std.specs.Ordering.{nat_cmp}
-use Rattle.dary_heap.specs.Popping.{IsGivenDescending}
+use Rattle.dary_heap_uses.proofs.Common.{◌+◌, ◌≤◌, length, vec_len, vec_capacity, nat_cmp, IsGivenDescending}
 use Rattle.dary_heap_uses.proofs.from_std.falling.Given as goal
 
 -- what came out so far, and room for the rest

@@ -1,16 +1,7 @@
-use Rattle.std.proofs.Common.{◌≡◌, ◌<◌, ◌≤◌, ◌∷◌, ℕ, List, Option, None, Some, All, IfSome, IfNone, arith, inl, inr, refl, rules, subst, sym}
+use Rattle.dary_heap_uses.proofs.Common.{◌≡◌, ◌<◌, ◌≤◌, ◌∷◌, ℕ, List, Option, None, Some, All, IfSome, IfNone, arith, inl, inr, refl, rules, subst, sym, All-nil, All-weaker, le_from_greatest, nat_cmp, IsGreatest, IsSameBag, front, front_cases, pop_if_no, upper_bound, upper_bound_left}
 use Rattle.std.proofs.lemmas.Cmp.{nat_cmp_total}
-use Rattle.std.proofs.lemmas.List.Elements.{All-nil, All-weaker}
-use Rattle.std.proofs.lemmas.List.Sorted.{le_from_greatest}
-use Rattle.std.specs.Ordering.{nat_cmp}
-use Rattle.dary_heap.specs.Bag.{IsGreatest, IsSameBag}
-use Rattle.dary_heap.specs.State.{front}
-use Rattle.dary_heap.proofs.Callers.{front_cases, pop_if_no, upper_bound, upper_bound_left}
+use Rattle.std.proofs.lemmas.Option.{IfSome_then}
 use Rattle.dary_heap_uses.proofs.from_std.highest_from.Goals as goal
-
-above : (old : List ℕ) (r : Option ℕ) → IfSome r (IsGreatest nat_cmp old) → IfSome r (λ x. All (λ y. y ≤ x) old)
-above old None greatest = tt
-above old (Some x) greatest = le_from_greatest x old (upper_bound nat_cmp_total old x greatest)
 
 below : (old new : List ℕ) (r : Option ℕ) → IfSome r (IsGreatest nat_cmp old) → IfSome r (λ x. IsSameBag old (x ∷ new)) → IfSome r (λ x. All (λ y. y ≤ x) new)
 below old new None greatest bag = tt
@@ -20,12 +11,12 @@ below old new (Some x) greatest bag = le_from_greatest x new (upper_bound_left n
 none : (bound : ℕ) (old : List ℕ) (r : Option ℕ) → (r ≡ None → (price : ℕ) → front old ≡ Some price → price < bound) → ((price : ℕ) → front old ≡ Some price → IsGreatest nat_cmp old price) → IfNone r (All (λ price. price < bound) old)
 none bound old None asked shown = elim (front_cases old) [
   | inl empty ↦ subst (All (λ price. price < bound)) (sym empty) (All-nil (λ price. price < bound))
-  | inr some ↦ (let below = asked refl some.0 some.1 in All-weaker (λ price. price ≤ some.0) (λ price. price < bound) (λ price under. omega (arith, below, under)) old (above old (Some some.0) (shown some.0 some.1)))
+  | inr some ↦ (let below = asked refl some.0 some.1 in All-weaker (λ price. price ≤ some.0) (λ price. price < bound) (λ price under. omega (arith, below, under)) old (le_from_greatest some.0 old (upper_bound nat_cmp_total old some.0 (shown some.0 some.1))))
 ]
 none bound old (Some price) asked shown = tt
 
 pub returns-clause-above_all : goal.returns-clause-above_all
-returns-clause-above_all c = above _ c.pop_if.result c.pop_if.ensures.greatest
+returns-clause-above_all c = IfSome_then _ c.pop_if.ensures.greatest (λ x greatest. le_from_greatest x _ (upper_bound nat_cmp_total _ x greatest))
 
 pub returns-clause-below : goal.returns-clause-below
 returns-clause-below c = below _ _ c.pop_if.result c.pop_if.ensures.greatest c.pop_if.ensures.bag

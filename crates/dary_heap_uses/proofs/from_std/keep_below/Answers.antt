@@ -1,6 +1,4 @@
-use Rattle.std.proofs.Common.{refl, rules, leb, subst}
-use Rattle.std.proofs.lemmas.Fn.{filter_same}
-use Rattle.dary_heap.specs.Bag.{IsSameBag}
+use Rattle.dary_heap_uses.proofs.Common.{refl, rules, leb, subst, filter_same, IsSameBag}
 use Rattle.dary_heap_uses.proofs.from_std.keep_below.Goals as goal
 
 pub returns-clause-left : goal.returns-clause-left

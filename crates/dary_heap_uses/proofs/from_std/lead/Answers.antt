@@ -1,6 +1,4 @@
-use Rattle.std.proofs.Common.{◌≤◌, ◌∷◌, arith}
-use Rattle.std.proofs.lemmas.List.Elements.{All-contains}
-use Rattle.std.proofs.lemmas.List.Sorted.{IsPermutation-cons, IsPermutation-trans, le_from_greatest}
+use Rattle.dary_heap_uses.proofs.Common.{◌≤◌, ◌∷◌, arith, All-contains, IsPermutation-cons, IsPermutation-trans, le_from_greatest}
 use Rattle.dary_heap_uses.proofs.from_std.lead.Goals as goal
 
 pub returns-clause-lead : goal.returns-clause-lead

@@ -1,5 +1,4 @@
-use Rattle.std.proofs.Common.{arith}
-use Rattle.dary_heap.proofs.Callers.{ordered_from_std_heap}
+use Rattle.dary_heap_uses.proofs.Common.{arith, ordered_from_std_heap}
 use Rattle.dary_heap_uses.proofs.from_std.moved.Goals as goal
 
 pub from_raw_vec-requires : goal.from_raw_vec-requires

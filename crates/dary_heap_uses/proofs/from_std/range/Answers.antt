@@ -1,8 +1,4 @@
-use Rattle.std.proofs.Common.{◌≡◌, ℕ, ◌-◌, ◌<◌, ◌≤◌, List, length, get_or, ap, arith, sym, ◌∙◌}
-use Rattle.std.proofs.lemmas.List.{get_or_default}
-use Rattle.std.proofs.lemmas.List.Sorted.{All-permutation, Contains-permutation, IsNonDecreasingBy-from_sort, IsPermutation-sym, IsPermutation-trans}
-use Rattle.std.specs.List.Sorted.{IsNonDecreasing}
-use Rattle.dary_heap.specs.Bag.{IsSameBag}
+use Rattle.dary_heap_uses.proofs.Common.{◌≡◌, ℕ, ◌-◌, ◌<◌, ◌≤◌, List, length, get_or, ap, arith, sym, ◌∙◌, get_or_default, All-permutation, Contains-permutation, IsNonDecreasingBy-from_sort, IsPermutation-sym, IsPermutation-trans, IsNonDecreasing, IsSameBag}
 use Rattle.dary_heap_uses.specs.FromStd.{IsRange}
 use Rattle.dary_heap_uses.proofs.from_std.range.Goals as goal
 

@@ -1,5 +1,4 @@
-use Rattle.std.proofs.Common.{◌+◌}
-use Rattle.dary_heap.specs.Bounds.{push_bound, pop_bound}
+use Rattle.dary_heap_uses.proofs.Common.{◌+◌, push_bound, pop_bound}
 use Rattle.dary_heap_uses.proofs.Keeping.{counted_more}
 use Rattle.dary_heap_uses.proofs.greatest.greatest.Goals as goal
 

@@ -1,6 +1,4 @@
-use Rattle.std.proofs.Common.{◌+◌, ◌*◌, ◌≤◌, length}
-use Rattle.dary_heap.specs.Bounds.{push_bound, pop_bound}
-use Rattle.dary_heap_uses.specs.Keeping.{KeepsGreatest, values}
+use Rattle.dary_heap_uses.proofs.Common.{◌+◌, ◌*◌, ◌≤◌, length, push_bound, pop_bound, KeepsGreatest, values}
 use Rattle.dary_heap_uses.proofs.greatest.greatest.Given as goal
 
 abbrev pub invariant-loop-item : goal.invariant-loop-item

@@ -1,10 +1,4 @@
-use Rattle.std.proofs.Common.{rules, ◌≡◌, ◌≤◌, ◌<◌, [], ◌∷◌, ◌++◌, length, length-set, slice_set, refl, sym, ap, ◌∙◌, subst, arith}
-use Rattle.std.proofs.lemmas.Bool.{true≢false}
-use Rattle.std.proofs.lemmas.Option.{slice_get_within}
-use Rattle.dary_heap.specs.Bounds.{pop_bound}
-use Rattle.dary_heap.proofs.Callers.{cmp_from_lt, cmp_from_not_lt, has_none, not_greater-less, on_ok_of}
-use Rattle.dary_heap.proofs.Depth.{depth-later}
-use Rattle.dary_heap_uses.specs.Keeping.{KeepsGreatest, values}
+use Rattle.dary_heap_uses.proofs.Common.{rules, ◌≡◌, ◌≤◌, ◌<◌, [], ◌∷◌, ◌++◌, length, length-set, slice_set, refl, sym, ap, ◌∙◌, subst, arith, true≢false, slice_get_within, pop_bound, cmp_from_lt, cmp_from_not_lt, has_none, not_greater-less, on_ok_of, depth-later, KeepsGreatest, values}
 use Rattle.dary_heap_uses.proofs.Keeping.{within_more, pushed, replaced, passed_by, none_kept, sunk_within}
 use Rattle.dary_heap_uses.proofs.greatest.offer.Goals as goal
 

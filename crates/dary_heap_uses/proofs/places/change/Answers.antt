@@ -1,5 +1,5 @@
 use Rattle.std.specs.Cmp.{nat_cmp_total}
-use Rattle.dary_heap.proofs.Callers.{overwritten}
+use Rattle.dary_heap_uses.proofs.Common.{overwritten}
 use Rattle.dary_heap_uses.proofs.places.change.Goals as goal
 
 pub returns-clause-ordered : goal.returns-clause-ordered

@@ -1,5 +1,5 @@
 use Rattle.std.specs.Cmp.{nat_cmp_total}
-use Rattle.dary_heap.proofs.Callers.{ordered_but_at}
+use Rattle.dary_heap_uses.proofs.Common.{ordered_but_at}
 use Rattle.dary_heap_uses.proofs.places.move_to_end.Goals as goal
 
 pub returns-clause-ordered : goal.returns-clause-ordered

@@ -1,4 +1,4 @@
-use Rattle.std.proofs.Common.{◌∙◌}
+use Rattle.dary_heap_uses.proofs.Common.{◌∙◌}
 use Rattle.dary_heap_uses.proofs.FirstFew.{collected}
 use Rattle.dary_heap_uses.proofs.ranking.first_ranked.Goals as goal
 

@@ -1,9 +1,6 @@
-use Rattle.std.proofs.Common.{length, get_or, refl, arith}
-use Rattle.std.proofs.lemmas.List.{take_more}
-use Rattle.std.proofs.lemmas.Option.{slice_get_read}
+use Rattle.dary_heap_uses.proofs.Common.{length, get_or, refl, arith, take_more, slice_get_read, Road}
 use Rattle.dary_heap_uses.proofs.Routes.{map_more}
 use Rattle.dary_heap_uses.proofs.roads.edges_of.Goals as goal
-use Rattle.dary_heap_uses.specs.declared.roads.Road.{Road}
 
 pub loop-road-preserved : goal.loop-road-preserved
 loop-road-preserved c =
@@ -13,4 +10,4 @@ loop-road-preserved c =
     let road = get_or roads i none in
     let joins = c.requires i none c.loop-road-test.true in
     let row_is = slice_get_read c.loop-road.edges.items (length c.loop-road.edges.items) road.start c.index_mut.result.now refl (omega (arith, joins.0, c.loop-road.invariant.long)) c.index_mut.ensures.value in
-    rw (take_more roads i none c.loop-road-test.true) (map_more c.loop-road.invariant road joins.0 joins.1 c.index_mut.result.now c.push.new.self row_is c.in-Ok.ensures.items)
+    rw (take_more roads i none c.loop-road-test.true) (map_more c.loop-road.invariant road joins.0 joins.1 c.index_mut.result.now c.push.new.self row_is c.in_ok-push.ensures.items)

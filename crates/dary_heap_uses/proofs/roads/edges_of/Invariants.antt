@@ -1,5 +1,4 @@
-use Rattle.std.proofs.Common.{take}
-use Rattle.dary_heap_uses.specs.Routes.{IsMap}
+use Rattle.dary_heap_uses.proofs.Common.{take, IsMap}
 use Rattle.dary_heap_uses.proofs.roads.edges_of.Given as goal
 
 -- the edges are those of the roads so far

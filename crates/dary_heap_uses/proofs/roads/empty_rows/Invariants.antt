@@ -1,4 +1,4 @@
-use Rattle.std.proofs.Common.{◌≡◌, [], All, length}
+use Rattle.dary_heap_uses.proofs.Common.{◌≡◌, [], All, length}
 use Rattle.dary_heap_uses.proofs.roads.empty_rows.Given as goal
 
 -- there are as many lists as came, and none has an edge

@@ -1,10 +1,5 @@
-use Rattle.std.proofs.Common.{◌≡◌, ℕ, arith, get_or, length, refl, subst}
-use Rattle.std.proofs.lemmas.List.{take_more}
-use Rattle.dary_heap.proofs.Callers.{reversed_came}
-use Rattle.dary_heap.specs.Bounds.{RisesWithin}
-use Rattle.dary_heap_uses.specs.Simulation.{pushes_bound}
+use Rattle.dary_heap_uses.proofs.Common.{◌≡◌, ℕ, arith, get_or, length, refl, subst, take_more, reversed_came, RisesWithin, pushes_bound, Event}
 use Rattle.dary_heap_uses.proofs.Running.{came_more, pushed_more}
-use Rattle.dary_heap_uses.specs.declared.simulation.Event.{Event}
 use Rattle.dary_heap_uses.proofs.simulation.push_all.Goals as goal
 
 pub unwrap-requires : goal.unwrap-requires

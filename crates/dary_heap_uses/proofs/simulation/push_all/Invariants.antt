@@ -1,7 +1,4 @@
-use Rattle.std.proofs.Common.{◌≡◌, ◌+◌, ◌++◌, ◌≤◌, length, map, take}
-use Rattle.dary_heap.specs.Bag.{IsSameBag}
-use Rattle.dary_heap.specs.Bounds.{RisesWithin}
-use Rattle.dary_heap_uses.specs.Simulation.{pushes_bound}
+use Rattle.dary_heap_uses.proofs.Common.{◌≡◌, ◌+◌, ◌++◌, ◌≤◌, length, map, take, IsSameBag, RisesWithin, pushes_bound}
 use Rattle.dary_heap_uses.proofs.simulation.push_all.Given as goal
 
 -- the events so far came, each by a push, and there is room for the others

@@ -1,9 +1,6 @@
-use Rattle.std.proofs.Common.{of_calls, lit<, rules, ap, subst}
-use borrow.Author.Tests.{tests}
+use Rattle.dheap.proofs.Common.{of_calls, lit<, rules, ap, subst, tests, MayPrint, Say, lines_of}
 use Rattle.dary_heap.proofs.Callable.{all_callable}
 use Rattle.dary_heap.specs.Reading as read
-use Rattle.dheap.specs.Program.{MayPrint}
-use Rattle.dheap.specs.Script.{Say, lines_of}
 use Rattle.dheap.proofs.Bounds.{may_print_by}
 use Rattle.dheap.proofs.Written.{printed_by, printable_by}
 use Rattle.dheap.proofs.serve.answer.Goals as goal

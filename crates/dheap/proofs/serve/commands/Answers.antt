@@ -1,7 +1,5 @@
-use Rattle.std.proofs.Common.{◌==◌, [], ◌∷◌, ◌++◌, refl, sym, ap, subst, ◌∙◌, arith, append_assoc, append-nil, length, map, option_to_list}
-use Rattle.std.proofs.lemmas.List.{length-append, map-append}
+use Rattle.dheap.proofs.Common.{◌==◌, [], ◌∷◌, ◌++◌, refl, sym, ap, subst, ◌∙◌, arith, append_assoc, append-nil, length, map, option_to_list, length-append, map-append, Say, lines_left}
 use Rattle.dary_heap.specs.Reading as read
-use Rattle.dheap.specs.Script.{Say, lines_left}
 use Rattle.dheap.proofs.Scripts.{CarryOut-more, Say-append, few_lines}
 use Rattle.dheap.proofs.serve.commands.Goals.{in-Some-command+in_ok-push, in_default-command, else-loop-number-test, then-loop-number-test+in_default}
 use Rattle.dheap.proofs.serve.commands.Goals as goal

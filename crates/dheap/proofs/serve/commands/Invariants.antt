@@ -1,7 +1,5 @@
-use Rattle.std.proofs.Common.{◌≡◌, ◌+◌, ◌++◌, ℕ, List, length}
+use Rattle.dheap.proofs.Common.{◌≡◌, ◌+◌, ◌++◌, ℕ, List, length, CarryOut, Say, lines_left, lines_of, Line}
 use Rattle.dary_heap.specs.Reading as read
-use Rattle.dheap.specs.Script.{CarryOut, Say, lines_left, lines_of}
-use Rattle.dheap.specs.declared.serve.line.Line.{Line}
 use Rattle.dheap.proofs.serve.commands.Given as goal
 
 -- the lines before this number are read, and the commands carry them out

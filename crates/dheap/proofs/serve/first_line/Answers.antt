@@ -1,8 +1,4 @@
-use Rattle.std.proofs.Common.{rules, suc, drop, arith, ◌+◌, ◌∷◌, take, ◌==◌, ◌≡◌, true, false, sym, ap, ◌∙◌}
-use Rattle.std.proofs.lemmas.Iterator.{YieldsList-from_slice, IsFirst-from_position}
-use borrow.Author.Tests.{tests}
-use Rattle.std.proofs.lemmas.List.{take_rest}
-use Rattle.dheap.specs.Script.{lines_of}
+use Rattle.dheap.proofs.Common.{rules, suc, drop, arith, ◌+◌, ◌∷◌, take, ◌==◌, ◌≡◌, true, false, sym, ap, ◌∙◌, YieldsList-from_slice, IsFirst-from_position, tests, take_rest, lines_of}
 use Rattle.dheap.proofs.Scripts.{cut, uncut}
 use Rattle.dheap.proofs.serve.first_line.Goals as goal
 

@@ -1,5 +1,4 @@
-use Rattle.std.proofs.Common.{◌++◌, ◌-◌, ◌/◌, refl, ap, ◌∙◌, arith}
-use Rattle.std.specs.Fmt.{decimal}
+use Rattle.dheap.proofs.Common.{◌++◌, ◌-◌, ◌/◌, refl, ap, ◌∙◌, arith, decimal}
 use Rattle.dheap.proofs.Decimals.{next_pair, first_pair, one_digit, put_before, two_places_fewer}
 use Rattle.dheap.proofs.serve.put_digits.Goals as goal
 

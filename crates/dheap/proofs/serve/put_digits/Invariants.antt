@@ -1,5 +1,4 @@
-use Rattle.std.proofs.Common.{◌≡◌, ℕ, suc, ◌+◌, ◌*◌, ◌++◌, ◌^◌, ◌<◌, ◌≤◌, drop}
-use Rattle.std.specs.Fmt.{decimal}
+use Rattle.dheap.proofs.Common.{◌≡◌, ℕ, suc, ◌+◌, ◌*◌, ◌++◌, ◌^◌, ◌<◌, ◌≤◌, drop, decimal}
 use Rattle.dheap.proofs.serve.put_digits.Given as goal
 
 -- the digits from this place on are put, and there is room for the others and a sign

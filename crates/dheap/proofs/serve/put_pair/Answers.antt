@@ -1,5 +1,4 @@
-use Rattle.std.proofs.Common.{◌+◌, ◌-◌, ◌/◌, ◌*◌, ◌∷◌, drop, get_or, set, ap, ◌∙◌, arith, length-set}
-use Rattle.dheap.specs.declared.serve.TheConstants.{PAIRS}
+use Rattle.dheap.proofs.Common.{◌+◌, ◌-◌, ◌/◌, ◌*◌, ◌∷◌, drop, get_or, set, ap, ◌∙◌, arith, length-set, PAIRS}
 use Rattle.dheap.proofs.Decimals.{two_digits, put_before}
 use Rattle.dheap.proofs.serve.put_pair.Goals as goal
 

@@ -1,4 +1,4 @@
-use Rattle.std.proofs.Common.{sym, ◌∙◌}
+use Rattle.dheap.proofs.Common.{sym, ◌∙◌}
 use Rattle.dheap.proofs.Scripts.{first_bad}
 use Rattle.dheap.proofs.serve.serve.Goals as goal
 

@@ -1,7 +1,5 @@
-use Rattle.std.proofs.Common.{sym, subst, subst₂, ◌∙◌, ◌+◌, take}
-use Rattle.std.specs.Io.KnownBytes.{Appends, append_known}
+use Rattle.dheap.proofs.Common.{sym, subst, subst₂, ◌∙◌, ◌+◌, take, Appends, append_known, text}
 use Rattle.dary_heap.specs.Reading as read
-use Rattle.dheap.specs.Answers.{text}
 use Rattle.dheap.proofs.Written.{whole-next, text-next, held-more, passed-on}
 use Rattle.dheap.proofs.serve.write_answers.Goals.{then-len-ge-HELD+in_ok-pass_on-2, else-len-ge-HELD}
 use Rattle.dheap.proofs.serve.write_answers.Goals as goal

@@ -1,7 +1,5 @@
-use Rattle.std.proofs.Common.{◌≡◌, All, is_some, true, take}
-use Rattle.std.specs.Io.KnownBytes.{Appends, append_known}
+use Rattle.dheap.proofs.Common.{◌≡◌, All, is_some, true, take, Appends, append_known, answer, text}
 use Rattle.dary_heap.specs.Reading as read
-use Rattle.dheap.specs.Answers.{answer, text}
 use Rattle.dheap.proofs.serve.write_answers.Given as goal
 
 -- the lines of those before this place are written or held back

@@ -1,6 +1,4 @@
-use Rattle.std.proofs.Common.{rules, ◌≡◌, ℤ, pos, ◌++◌, flat_map, codes, get_or, take, ap, sym, ◌∙◌}
-use Rattle.std.proofs.lemmas.List.{flat_map_more, take_all, take_more}
-use Rattle.std.specs.Fmt.{signed_decimal}
+use Rattle.dheap.proofs.Common.{rules, ◌≡◌, ℤ, pos, ◌++◌, flat_map, codes, get_or, take, ap, sym, ◌∙◌, flat_map_more, take_all, take_more, signed_decimal}
 use Rattle.dheap.proofs.Decimals.{listing_held}
 use Rattle.dheap.proofs.serve.write_items.Goals as goal
 

@@ -1,5 +1,4 @@
-use Rattle.std.proofs.Common.{◌≡◌, ◌++◌, flat_map, codes, take}
-use Rattle.std.specs.Fmt.{signed_decimal}
+use Rattle.dheap.proofs.Common.{◌≡◌, ◌++◌, flat_map, codes, take, signed_decimal}
 use Rattle.dheap.proofs.serve.write_items.Given as goal
 
 -- those before this place are written, each with a space after it

@@ -1,8 +1,5 @@
-use Rattle.std.proofs.Common.{◌≡◌, rules, is_some, true, false}
-use Rattle.std.proofs.lemmas.Iterator.{YieldsList-from_slice, cases_from_all}
-use borrow.Author.Tests.{tests}
+use Rattle.dheap.proofs.Common.{◌≡◌, rules, is_some, true, false, YieldsList-from_slice, cases_from_all, tests, answer}
 use Rattle.dary_heap.specs.Reading as read
-use Rattle.dheap.specs.Answers.{answer}
 use Rattle.dheap.proofs.Written.{all_answered}
 use Rattle.dheap.proofs.serve.write_replies.Goals as goal
 

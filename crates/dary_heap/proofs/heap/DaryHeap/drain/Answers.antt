@@ -1,6 +1,5 @@
 use Rattle.dary_heap.proofs.Common.{Vec, vec_capacity, vec_len, refl, ap, ◌∙◌, Global, Contents, drain_rest}
 use Rattle.dary_heap.proofs.iter.Iterating.{runs, runs_back}
-use Rattle.dary_heap.proofs.Order.{none_ordered}
 use Rattle.dary_heap.proofs.sift.Written.{none_written, same_contents}
 use Rattle.dary_heap.proofs.heap.DaryHeap.drain.Goals as goal
 

@@ -1,6 +1,4 @@
-use Rattle.dary_heap.proofs.Common.{slice_get, ap, ◌∙◌}
-use Rattle.dary_heap.proofs.Bounded.{shown_bound}
-use Rattle.dary_heap.proofs.Order.{peeked}
+use Rattle.dary_heap.proofs.{slice_get, ap, ◌∙◌, shown_bound, peeked}
 use Rattle.dary_heap.proofs.heap.DaryHeap.peek.Goals as goal
 
 pub returns-clause-greatest : goal.returns-clause-greatest

@@ -1,5 +1,4 @@
-use Rattle.dary_heap.proofs.Common.{rules, refl, sym, subst, IsHeapOrdered}
-use Rattle.dary_heap.proofs.Fronts.{ordered_state}
+use Rattle.dary_heap.proofs.{rules, refl, sym, subst, IsHeapOrdered, ordered_state}
 use Rattle.dary_heap.proofs.heap.DaryHeap.peek_mut.Goals as goal
 
 pub returns : goal.returns

@@ -1,7 +1,4 @@
-use Rattle.dary_heap.proofs.Common.{◌≡◌, ◌↔◌, ◌<◌, List, [], ◌∷◌, length, refl, sym, subst, arith, Option, Some, None, IsSome, IfSome, slice_get, RisesWithin, pop_bound}
-use Rattle.dary_heap.proofs.sift.BelowRoot.{below_root}
-use Rattle.dary_heap.proofs.Bounded.{popped_bound}
-use Rattle.dary_heap.proofs.Order.{popped_is_greatest}
+use Rattle.dary_heap.proofs.{◌≡◌, ◌↔◌, ◌<◌, List, [], ◌∷◌, length, refl, sym, subst, arith, Option, Some, None, IsSome, IfSome, slice_get, RisesWithin, pop_bound, below_root, popped_is_greatest, popped_bound}
 use Rattle.dary_heap.proofs.heap.DaryHeap.pop.Goals as goal
 
 first_of : {X : Type 0} (r : Option X) (xs : List X) → (IsSome r ↔ (0 < length xs)) → IfSome r (λ item. slice_get xs 0 ≡ Some item) → r ≡ slice_get xs 0

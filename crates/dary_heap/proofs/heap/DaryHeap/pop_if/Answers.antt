@@ -1,4 +1,4 @@
-use Rattle.dary_heap.proofs.Common.{◌≡◌, true, false, Some, refl, subst, ◌∙◌, IsGreatest}
+use Rattle.dary_heap.proofs.Common.{◌≡◌, true, false, Some, refl, ◌∙◌}
 use Rattle.dary_heap.proofs.heap.DaryHeap.pop_if.Goals as goal
 
 pub returns-then-predicate-clause-asked : goal.returns-then-predicate-clause-asked

@@ -1,20 +1,24 @@
-use Rattle.dary_heap.proofs.Common.{IsPermutation-refl, length_permutation, rules, ◌≡◌, refl, ap, ◌∙◌, length, front}
+use Rattle.dary_heap.proofs.Common.{IsPermutation-refl, length_permutation, rules, ◌≡◌, refl, ap, ◌∙◌, length, front, IsSameBag, IsHeapOrdered, IsExceeded, loaned}
 use Rattle.dary_heap.proofs.peek_mut.Loans.{lone_uncounted, lone_unexceeded, sunk_unmoved}
-use Rattle.dary_heap.proofs.sift.Uncounted.{none_counted}
-use Rattle.dary_heap.proofs.sift.Written.{same_contents, written_back}
+use Rattle.dary_heap.proofs.sift.Written.{none_counted, same_contents, written_back}
+use Rattle.dary_heap.proofs.peek_mut.PeekMut.drop.Goals.{After-swap, then-written, else-written}
 use Rattle.dary_heap.proofs.peek_mut.PeekMut.drop.Goals as goal
-use Rattle.dary_heap.proofs.peek_mut.PeekMut.drop.Goals.{then-written, else-written}
 
-pub returns-clause-unmoved : goal.returns-clause-unmoved
-returns-clause-unmoved g c = λ none.
-    ap (λ v. v.items) c.swap.ensures.x_after ∙ (elim c.if-written.branch [
+-- what the heap's vector has then: the same items as a heap, and in the same places if none exceeds the first
+left : (g : _) (c : After-swap g) → IsSameBag c.into_vec-items.result.items c.if-written.items.items × IsHeapOrdered g.T.Ord.cmp g.row.D c.if-written.items.items × ((IsExceeded g.T.Ord.cmp (loaned c.args.self).items → ⊥) → c.if-written.items.items ≡ (loaned c.args.self).items)
+left g c =
+    let lent = c.args.self.lent in
+    elim c.if-written.branch [
       | then-written w ↦
           let zs = w.sink_with.new.items in
           let all : length zs ≡ c.into_vec-items.result.len = w.sink_with.auto.items ∙ w.as_mut_slice.ensures.len in
           let is = w.as_mut_slice.ensures.value ∙ c.into_vec-items.ensures.items in
-          rw (w.items-is, written_back _ zs _ all) (sunk_unmoved g.row.D _ zs _ (rw is at w.sink_with.ensures.moved) (rw is at w.sink_with.ensures.unchanged) none)
-      | else-written w ↦ rw w.items-is c.into_vec-items.ensures.items
-    ])
+          rw (w.items-is, written_back _ zs _ all) (rw w.as_mut_slice.ensures.value at w.sink_with.ensures.bag, (rw is at w.sink_with.ensures.ordered) lent.below_root, sunk_unmoved g.row.D _ zs _ (rw is at w.sink_with.ensures.moved) (rw is at w.sink_with.ensures.unchanged))
+      | else-written w ↦ rw w.items-is (IsPermutation-refl _, rw c.into_vec-items.ensures.items (lent.whole w.if-written.false), λ none. c.into_vec-items.ensures.items)
+    ]
+
+pub returns-clause-unmoved : goal.returns-clause-unmoved
+returns-clause-unmoved g c = λ none. ap (λ v. v.items) c.swap.ensures.x_after ∙ (left g (goal.at.returns-clause-unmoved g c).After-swap).2 none
 
 pub returns-clause-first : goal.returns-clause-first
 returns-clause-first g c = λ none. ap front (returns-clause-unmoved g c none)
@@ -37,26 +41,10 @@ returns-clause-alone g c = λ one.
     same_contents _ _ still (search rules) (lone_uncounted g.row.D _ _ _ one (search rules))
 
 pub invariant_of-heap : goal.invariant_of-heap
-invariant_of-heap g c =
-    let lent = c.args.self.lent in
-    rw c.swap.ensures.x_after (elim c.if-written.branch [
-      | then-written w ↦
-          let zs = w.sink_with.new.items in
-          let all : length zs ≡ c.into_vec-items.result.len = w.sink_with.auto.items ∙ w.as_mut_slice.ensures.len in
-          let is = w.as_mut_slice.ensures.value ∙ c.into_vec-items.ensures.items in
-          rw (w.items-is, written_back _ zs _ all) ((rw is at w.sink_with.ensures.ordered) lent.below_root)
-      | else-written w ↦ rw (w.items-is, c.into_vec-items.ensures.items) (lent.whole w.if-written.false)
-    ])
+invariant_of-heap g c = rw c.swap.ensures.x_after (left g c).1
 
 pub returns-clause-bag : goal.returns-clause-bag
-returns-clause-bag g c = rw c.swap.ensures.x_after (elim c.if-written.branch [
-  | then-written w ↦
-      let zs = w.sink_with.new.items in
-      let all : length zs ≡ c.into_vec-items.result.len = w.sink_with.auto.items ∙ w.as_mut_slice.ensures.len in
-      let is = w.as_mut_slice.ensures.value ∙ c.into_vec-items.ensures.items in
-      rw (w.items-is, written_back _ zs _ all) (rw is at w.sink_with.ensures.bag)
-  | else-written w ↦ rw (w.items-is, c.into_vec-items.ensures.items) (IsPermutation-refl _)
-])
+returns-clause-bag g c = rw (c.swap.ensures.x_after, ← c.into_vec-items.ensures.items) (left g (goal.at.returns-clause-bag g c).After-swap).0
 
 pub returns-clause-counted : goal.returns-clause-counted
 returns-clause-counted g c = rw (← c.heap.view_is) (elim c.if-written.branch [

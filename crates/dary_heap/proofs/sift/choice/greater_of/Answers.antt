@@ -1,5 +1,5 @@
 use Rattle.dary_heap.proofs.Common.{sym, ◌∙◌}
-use Rattle.dary_heap.proofs.sift.Row.{joins-left, joins-right}
+use Rattle.dary_heap.proofs.sift.Choosing.{joins-left, joins-right}
 use Rattle.dary_heap.proofs.sift.choice.greater_of.Goals as goal
 
 pub returns-then-at_most-clause-chosen : goal.returns-then-at_most-clause-chosen

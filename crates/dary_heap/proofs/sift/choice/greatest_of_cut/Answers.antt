@@ -1,7 +1,5 @@
-use Rattle.dary_heap.proofs.Common.{◌≡◌, ◌+◌, ◌*◌, ◌<◌, ap, refl, arith, Chooses}
-use Rattle.dary_heap.proofs.sift.Choosing.{cut_row}
-use Rattle.dary_heap.proofs.Place.{no_whole_row}
-use Rattle.dary_heap.proofs.sift.Row.{greatest_of_one}
+use Rattle.dary_heap.proofs.{◌≡◌, ◌+◌, ◌*◌, ◌<◌, ap, refl, arith, Chooses, no_whole_row}
+use Rattle.dary_heap.proofs.sift.Choosing.{cut_row, greatest_of_one}
 use Rattle.dary_heap.proofs.sift.choice.greatest_of_cut.Goals as goal
 
 pub returns-in-2 : goal.returns-in-2

@@ -1,9 +1,6 @@
-use Rattle.dary_heap.proofs.Common.{◌+◌, subst, arith, IsGreatestAt}
+use Rattle.dary_heap.proofs.Common.{◌+◌, arith}
+use Rattle.dary_heap.proofs.sift.Choosing.{up_to}
 use Rattle.dary_heap.proofs.sift.choice.greatest_of_four.Goals as goal
 
 pub returns-clause-chosen : goal.returns-clause-chosen
-returns-clause-chosen g c =
-    let first = c.args.first in
-    let xs = c.args.hole.now.items in
-    let right = subst (λ end. IsGreatestAt g.J.Judge.order (first + 2) end c.greatest_of_two-right.result.0 c.greatest_of_two-right.result.1.now xs) (omega arith) c.greatest_of_two-right.ensures.chosen in
-    c.greater_of.ensures.chosen xs first (first + 2) (first + 4) c.greatest_of_two-left.ensures.chosen right
+returns-clause-chosen g c = c.greater_of.ensures.chosen c.args.hole.now.items c.args.first (c.args.first + 2) (c.args.first + 4) c.greatest_of_two-left.ensures.chosen (up_to c.greatest_of_two-right.ensures.chosen (omega arith))

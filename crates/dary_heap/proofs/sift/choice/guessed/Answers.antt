@@ -1,7 +1,7 @@
 use Rattle.dary_heap.proofs.Common.{◌+◌, length, refl, sym, subst, ◌∙◌, arith, slice_get_read, IsLastGreatest}
-use Rattle.dary_heap.proofs.sift.Row.{greatest_of_one, joins-left, joins-right}
-use Rattle.dary_heap.proofs.sift.choice.guessed.Goals as goal
+use Rattle.dary_heap.proofs.sift.Choosing.{greatest_of_one, joins-left, joins-right}
 use Rattle.dary_heap.proofs.sift.choice.guessed.Goals.{then-at_most, else-at_most}
+use Rattle.dary_heap.proofs.sift.choice.guessed.Goals as goal
 
 pub loop-place-preserved : goal.loop-place-preserved
 loop-place-preserved g c =

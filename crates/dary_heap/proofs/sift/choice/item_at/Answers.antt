@@ -1,5 +1,5 @@
 use Rattle.dary_heap.proofs.Common.{length, refl, arith, slice_get_read}
-use Rattle.dary_heap.proofs.sift.Row.{greatest_of_one}
+use Rattle.dary_heap.proofs.sift.Choosing.{greatest_of_one}
 use Rattle.dary_heap.proofs.sift.choice.item_at.Goals as goal
 
 pub returns : goal.returns

@@ -1,5 +1,5 @@
 use Rattle.dary_heap.proofs.Common.{◌≡◌, ℕ, ◌+◌, Bool, true, false, if◌then◌else◌, refl, arith, bool_byte}
-use Rattle.dary_heap.proofs.sift.Row.{greatest_of_pair}
+use Rattle.dary_heap.proofs.sift.Choosing.{greatest_of_pair}
 use Rattle.dary_heap.proofs.sift.choice.place_of_two.Goals as goal
 
 stepped : (t : Bool) (n : ℕ) → n + bool_byte t ≡ (if t then n + 1 else n)

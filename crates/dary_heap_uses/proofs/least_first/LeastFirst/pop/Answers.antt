@@ -1,7 +1,4 @@
-use Rattle.std.proofs.Common.{List, ap, subst}
-use Rattle.dary_heap.proofs.Callers.{reversed_least, reversed_went}
-use Rattle.dary_heap.specs.Contents.{Contents}
-use Rattle.dary_heap_uses.specs.LeastFirst.{IsLeast}
+use Rattle.dary_heap_uses.proofs.Common.{List, ap, subst, reversed_least, reversed_went, Contents, IsLeast}
 use Rattle.dary_heap_uses.proofs.least_first.LeastFirst.pop.Goals as goal
 
 pub returns-clause-least : goal.returns-clause-least

@@ -1,6 +1,4 @@
-use Rattle.std.proofs.Common.{ap}
-use Rattle.dary_heap.proofs.Callers.{reversed_came}
-use Rattle.dary_heap.specs.Contents.{Contents}
+use Rattle.dary_heap_uses.proofs.Common.{ap, reversed_came, Contents}
 use Rattle.dary_heap_uses.proofs.least_first.LeastFirst.push.Goals as goal
 use Rattle.dary_heap_uses.proofs.least_first.LeastFirst.push.Goals.{in-Ok, in-Err}
 

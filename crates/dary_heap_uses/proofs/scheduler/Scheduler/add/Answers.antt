@@ -1,6 +1,5 @@
-use Rattle.std.proofs.Common.{refl}
+use Rattle.dary_heap_uses.proofs.Common.{refl, waiting}
 use Rattle.dary_heap_uses.proofs.Scheduling.{numbered_more}
-use Rattle.dary_heap_uses.specs.Scheduling.{waiting}
 use Rattle.dary_heap_uses.proofs.scheduler.Scheduler.add.Goals as goal
 
 pub invariant_of-self-2 : goal.invariant_of-self-2

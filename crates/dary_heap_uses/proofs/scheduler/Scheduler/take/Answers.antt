@@ -1,6 +1,5 @@
-use Rattle.std.proofs.Common.{ap, subst}
+use Rattle.dary_heap_uses.proofs.Common.{ap, subst, IsTaken}
 use Rattle.dary_heap_uses.proofs.Scheduling.{numbered_less, taken_first}
-use Rattle.dary_heap_uses.specs.Scheduling.{IsTaken}
 use Rattle.dary_heap_uses.proofs.scheduler.Scheduler.take.Goals as goal
 
 pub invariant_of-self-2 : goal.invariant_of-self-2

@@ -1,8 +1,5 @@
-use Rattle.std.proofs.Common.{ℕ, ◌+◌, ◌∷◌, [], ◌++◌, ◌∙◌, length, ap, arith, refl}
-use Rattle.std.proofs.lemmas.List.{length_push}
-use Rattle.std.proofs.lemmas.Result.{err_from_is_err_and}
+use Rattle.dary_heap_uses.proofs.Common.{ℕ, ◌+◌, ◌∷◌, [], ◌++◌, ◌∙◌, length, ap, arith, refl, length_push, err_from_is_err_and, Agenda, Step}
 use Rattle.dary_heap_uses.proofs.Running.{IsRun-begun, IsRun-more, many_more, IsRun-returned}
-use Rattle.dary_heap_uses.specs.Simulation.{Agenda, Step}
 use Rattle.dary_heap_uses.proofs.simulation.Simulation.run.Goals as goal
 
 pub returns-in_err-schedule_all-clause-refused : goal.returns-in_err-schedule_all-clause-refused

@@ -1,5 +1,4 @@
-use Rattle.std.proofs.Common.{◌≡◌, List, [], length}
-use Rattle.dary_heap_uses.specs.Simulation.{Step, IsRun}
+use Rattle.dary_heap_uses.proofs.Common.{◌≡◌, List, [], length, Step, IsRun}
 use Rattle.dary_heap_uses.proofs.Running.{waits_after}
 use Rattle.dary_heap_uses.proofs.simulation.Simulation.run.Given as goal
 

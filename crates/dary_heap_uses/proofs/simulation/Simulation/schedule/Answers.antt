@@ -1,9 +1,4 @@
-use Rattle.std.proofs.Common.{arith, ◌≤◌, All, ap, map, subst, sym}
-use Rattle.std.specs.declared.cmp.Reverse.{Reverse}
-use Rattle.dary_heap.specs.Contents.{Contents}
-use Rattle.dary_heap.proofs.Callers.{reversed_all_came, reversed_came}
-use Rattle.dary_heap_uses.specs.Simulation.{Agenda}
-use Rattle.dary_heap_uses.specs.declared.simulation.Event.{Event}
+use Rattle.dary_heap_uses.proofs.Common.{arith, ◌≤◌, All, ap, map, subst, sym, Reverse, Contents, reversed_all_came, reversed_came, Agenda, Event}
 use Rattle.dary_heap_uses.proofs.simulation.Simulation.schedule.Goals as goal
 use Rattle.dary_heap_uses.proofs.simulation.Simulation.schedule.Goals.{in-Ok, in-Err}
 

@@ -1,9 +1,4 @@
-use Rattle.std.proofs.Common.{ℕ, ◌≤◌, ◌++◌, All, List, ap, map, subst, sym}
-use Rattle.std.specs.declared.cmp.Reverse.{Reverse}
-use Rattle.std.proofs.lemmas.List.Elements.{All-append}
-use Rattle.std.proofs.lemmas.List.Sorted.{All-permutation}
-use Rattle.dary_heap_uses.specs.Simulation.{Agenda}
-use Rattle.dary_heap_uses.specs.declared.simulation.Event.{Event}
+use Rattle.dary_heap_uses.proofs.Common.{ℕ, ◌≤◌, ◌++◌, All, List, ap, map, subst, sym, Reverse, All-append, All-permutation, Agenda, Event}
 use Rattle.dary_heap_uses.proofs.simulation.Simulation.schedule_all.Goals as goal
 
 pub invariant_of-self-2 : goal.invariant_of-self-2

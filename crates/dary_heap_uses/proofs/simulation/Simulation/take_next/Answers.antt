@@ -1,11 +1,4 @@
-use Rattle.std.proofs.Common.{rules, arith, ◌<◌, ◌≢◌, ◌≤◌, All, List, ap, map, subst}
-use Rattle.std.proofs.lemmas.List.Elements.{All-contains}
-use Rattle.std.specs.Ordering.{nat_cmp, ordering_then}
-use Rattle.std.specs.declared.cmp.Ordering.TheVariants.{Greater}
-use Rattle.std.specs.declared.cmp.Reverse.{Reverse}
-use Rattle.dary_heap.proofs.Callers.{Contains-map, nat_le_from_first, pop_if_no, pop_if_yes, reversed_all_above, reversed_all_left, reversed_least_key, reversed_went}
-use Rattle.dary_heap_uses.specs.Simulation.{Agenda}
-use Rattle.dary_heap_uses.specs.declared.simulation.Event.{Event}
+use Rattle.dary_heap_uses.proofs.Common.{rules, arith, ◌<◌, ◌≢◌, ◌≤◌, All, List, ap, map, subst, All-contains, nat_cmp, ordering_then, Greater, Reverse, Contains-map, nat_le_from_first, pop_if_no, pop_if_yes, reversed_all_above, reversed_all_left, reversed_least_key, reversed_went, Agenda, Event}
 use Rattle.dary_heap_uses.proofs.simulation.Simulation.take_next.Goals as goal
 
 no_later : (x y : Event) → ordering_then (nat_cmp x.moment y.moment) (nat_cmp x.kind y.kind) ≢ Greater → x.moment ≤ y.moment

@@ -1,6 +1,4 @@
-use Rattle.std.proofs.Common.{ap}
-use Rattle.dary_heap.proofs.Callers.{reversed_came}
-use Rattle.dary_heap_uses.specs.Timers.{Timers}
+use Rattle.dary_heap_uses.proofs.Common.{ap, reversed_came, Timers}
 use Rattle.dary_heap_uses.proofs.timers.TimerQueue.set.Goals as goal
 use Rattle.dary_heap_uses.proofs.timers.TimerQueue.set.Goals.{in-Ok, in-Err}
 

@@ -1,5 +1,4 @@
-use Rattle.std.proofs.Common.{arith, ◌∙◌}
-use Rattle.std.proofs.lemmas.List.Sorted.{length_permutation}
+use Rattle.dary_heap_uses.proofs.Common.{arith, ◌∙◌, length_permutation}
 use Rattle.dary_heap_uses.proofs.Taking.{IsTaking-more, pops_more}
 use Rattle.dary_heap_uses.proofs.timers.TimerQueue.take_due.Goals as goal
 

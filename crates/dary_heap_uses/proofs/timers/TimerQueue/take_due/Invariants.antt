@@ -1,5 +1,4 @@
-use Rattle.std.proofs.Common.{◌≡◌, ◌+◌, ◌≤◌, length, vec_len, vec_capacity}
-use Rattle.dary_heap.specs.Bounds.{pops_bound}
+use Rattle.dary_heap_uses.proofs.Common.{◌≡◌, ◌+◌, ◌≤◌, length, vec_len, vec_capacity, pops_bound}
 use Rattle.dary_heap_uses.proofs.Taking.{IsTaking}
 use Rattle.dary_heap_uses.proofs.timers.TimerQueue.take_due.Given as goal
 

@@ -1,10 +1,4 @@
-use Rattle.std.proofs.Common.{rules, ◌<◌, ◌≢◌, ◌≤◌, All, List, ap, subst}
-use Rattle.std.specs.Ordering.{nat_cmp, ordering_then}
-use Rattle.std.specs.declared.cmp.Ordering.TheVariants.{Greater}
-use Rattle.std.specs.declared.cmp.Reverse.{Reverse}
-use Rattle.dary_heap.proofs.Callers.{Contains-map, nat_le_from_first, pop_if_no, pop_if_yes, reversed_all_above, reversed_least_key, reversed_went}
-use Rattle.dary_heap_uses.specs.Timers.{Timers}
-use Rattle.dary_heap_uses.specs.declared.timers.Timer.{Timer}
+use Rattle.dary_heap_uses.proofs.Common.{rules, ◌<◌, ◌≢◌, ◌≤◌, All, List, ap, subst, nat_cmp, ordering_then, Greater, Reverse, Contains-map, nat_le_from_first, pop_if_no, pop_if_yes, reversed_all_above, reversed_least_key, reversed_went, Timers, Timer}
 use Rattle.dary_heap_uses.proofs.timers.TimerQueue.take_next.Goals as goal
 
 no_later : (x y : Timer) → ordering_then (nat_cmp x.moment y.moment) (nat_cmp x.name y.name) ≢ Greater → x.moment ≤ y.moment

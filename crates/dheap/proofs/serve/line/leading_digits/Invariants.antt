@@ -1,10 +1,10 @@
-use Rattle.std.proofs.Common.{◌^◌, ◌<◌}
-use Rattle.dheap.proofs.Numerals.{IsReadTo}
+use Rattle.dheap.proofs.Common.{◌≡◌, ◌^◌, ◌<◌, take, AllDigits, digits_value}
 use Rattle.dheap.proofs.serve.line.leading_digits.Given as goal
 
--- the digits before this place are read
+-- the bytes before this place are digits, and write the number
 abbrev pub invariant-loop-place : goal.invariant-loop-place
 invariant-loop-place l = record {
-  read : IsReadTo l.script l.place l.number;
+  digits : AllDigits 10 (take l.place l.script);
+  number : l.number ≡ digits_value 10 (take l.place l.script);
   short : l.number < 10 ^ l.place;
 }

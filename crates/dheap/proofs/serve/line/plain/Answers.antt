@@ -1,6 +1,4 @@
-use Rattle.std.proofs.Common.{◌≡◌, rules, codes, FitsSigned, sym, subst, ◌∙◌}
-use Rattle.std.specs.Int.{w64}
-use Rattle.std.proofs.lemmas.Int.{to_z-of_z}
+use Rattle.dheap.proofs.Common.{◌≡◌, rules, codes, FitsSigned, sym, subst, ◌∙◌, w64, to_z-of_z}
 use Rattle.dheap.proofs.Plain.{script_begins, four, push_line, pop_line, len_line, test_line}
 use Rattle.dheap.proofs.serve.line.plain.Goals as goal
 

@@ -1,7 +1,4 @@
-use Rattle.std.proofs.Common.{Some, [], ◌∷◌, FitsSigned, sym, subst, ◌∙◌}
-use Rattle.std.specs.Int.{w64}
-use Rattle.std.proofs.lemmas.Int.{to_z-of_z}
-use Rattle.std.proofs.lemmas.Bool.Decides.{Decides-eqb}
+use Rattle.dheap.proofs.Common.{Some, [], ◌∷◌, FitsSigned, sym, subst, ◌∙◌, w64, to_z-of_z, Decides-eqb}
 use Rattle.std.proofs.lemmas.Slice.Eq.{strip_prefix_is}
 use Rattle.dheap.proofs.Plain.{minus_number}
 use Rattle.dheap.proofs.serve.line.plain_number.Goals as goal

@@ -1,12 +1,11 @@
 -- `move_to` reads an item out of its place and writes it into the empty one, at any item type. Assumes `Logic`.
-use Rattle.dary_heap.proofs.hole.Walks.{ℕ, ◌+◌, ◌*◌, ◌<◌, ◌^◌, Bool, true, false, List, [], ◌∷◌, ◌≡◌, refl, sym, ap, ◌∙◌, arith, length, get_or, set, length-set, ftrue, fat, froom, flft, full_share, inst_fn, Fn, w64, named, Val, vunit, vptr, ◌⊑◌, fact, tables, ‵, raw, ◌⊛◌, some, given, at_ret, ◌$◌, ◌∵◌, !, qed, move, keep, drop, use1, use2, use3, split, split3, fsplit, fsplit3, feq_i, rewrite, group, pick, learn, suffices, done, whole, sub, look_in, look, init, forget, stop, fld, load, size_lit, unit_lit, of_opd, bin, assigns_last, first, blocks, exec, returns, enter, alloc_all, pass_all, free_all, look_at, get, through, sets, env, usize, yes, uint_vals, uint_Tells, owns, block_ptr, mut_vals, mut_Tells, plain, types_at, heard, nothing, Ended, Stays, stay_ref, stay_dropped, Goes-ref, Goes-dropped, walk_of, ends_at, ◌≢◌, proved, says_three, El, R, args, el_x, elτ, Good, hd, any-default, after, sz, besides, value_out, value_in, room_out, room_in, slots}
+use Rattle.dary_heap.proofs.hole.{ℕ, ◌+◌, ◌*◌, ◌<◌, ◌^◌, Bool, true, false, List, [], ◌∷◌, ◌≡◌, refl, sym, ap, ◌∙◌, arith, length, get_or, set, length-set, ftrue, fat, froom, flft, full_share, inst_fn, Fn, w64, named, Val, vunit, vptr, ◌⊑◌, fact, tables, ‵, raw, ◌⊛◌, some, given, at_ret, ◌$◌, ◌∵◌, !, qed, move, keep, drop, use1, use2, use3, split, split3, fsplit, fsplit3, feq_i, rewrite, group, pick, learn, suffices, done, whole, sub, look_in, look, init, forget, stop, fld, load, size_lit, unit_lit, of_opd, bin, assigns_last, first, blocks, exec, returns, enter, alloc_all, pass_all, free_all, look_at, get, through, sets, env, usize, yes, uint_vals, uint_Tells, owns, block_ptr, mut_vals, mut_Tells, plain, types_at, heard, nothing, Ended, Stays, stay_ref, stay_dropped, Goes-ref, Goes-dropped, walk_of, ends_at, ◌≢◌, proved, says_three, El, R, args, el_x, elτ, Good, hd, any-default, after, sz, besides, value_out, value_in, room_out, room_in, slots, opens, closes, cell_at, Ptr, Hollow, filled_but_other, holds_other, many_marks, size_fits, offset_fits, row_found, row_in, row_of, words}
 use Rattle.dary_heap.specs.Places.{filled_but}
 use Rattle.dary_heap.specs.declared.hole.places.Hole.{Hole}
-use Rattle.dary_heap.specs.contracts.hole.places.Hole.move_to as f
 use Rattle.dary_heap.specs.contracts.hole.places.Hole.move_to.Key.{name}
-use Rattle.dary_heap.proofs.hole.PlacesOwned.{Hollow, filled_but_other, holds_other, many_marks, size_fits, offset_fits, hollow_opened, hollow_closed}
-use Rattle.dary_heap.proofs.hole.places.Hole.move_to.Code as code
 use Rattle.dary_heap.proofs.hole.places.Hole.move_to.Statement.{statement}
+use Rattle.dary_heap.specs.contracts.hole.places.Hole.move_to as f
+use Rattle.dary_heap.proofs.hole.places.Hole.move_to.Code as code
 
 module _ (E : El) where
   abbrev body : Fn
@@ -34,7 +33,9 @@ move_to_spec 𝓤 𝓛 𝓜 𝓡 wired X L =
     move ! (1 ∷ []) $ split3 ! $ drop ! $ heard ! (at ≡ h.at) (λ here. heard ! Other (λ other.
     split ! $ split3 ! $ move ! (3 ∷ []) $ fsplit ! $ fsplit3 ! $ keep ! (1 ∷ 2 ∷ 4 ∷ 5 ∷ []) $
     enter ! _ _ _ _ _ $ alloc_all ! (λ l. pass_all ! refl ((tt, tt), ((tt, record { fits = are.1.0.1 }), ((tt, record { fits = are.1.1.0.1 }), tt))) $
-    hollow_opened E ! tt h rb ro (λ b o is room.
+    -- the row, its two words, and the open borrow in three entries
+    opens ! tt (Hollow E) {h = h} rb ro (λ us. move ! (1 ∷ []) $ row_found E ! h.ptr n xs (filled_but n h.at) us (λ b o is words_are room.
+    rewrite ! 1 (λ (ws : List Val). ‵ (cell_at full_share (Hollow E).mir ws rb ro)) words_are refl $
     let d : el_x E = hd xs (omega (arith, other.0)) in let x : el_x E = get_or xs place d in
     let fs : List Bool = filled_but n at in let fs' : List Bool = set fs place false in let xs' : List (el_x E) = set xs at x in
     let count : n ≡ length xs = h.ok.0 in let low : h.at < n = h.ok.1 in let p_xs : place < length xs = other.0 in let marks : length fs ≡ n = many_marks n at in let marks' : length fs' ≡ length fs = length-set fs place false in
@@ -61,8 +62,10 @@ move_to_spec 𝓤 𝓛 𝓜 𝓡 wired X L =
     exec ! 𝓣.C 𝓣.Λ (env (body E).locals l) (after 1 (body E).body) (at_ret _ (W.post y)) $ sets ! (of_opd ! (unit_lit !)) refl (tt, tt) $
     move ! (0 ∷ 2 ∷ 1 ∷ []) $ use3 𝓛 (‵ (slots (R E) (block_ptr b o) xs' (set fs' at true))) (value_in E 𝓛 b o xs fs' at at_xs at_fs x v) $
     rewrite ! 0 (λ (gs : List Bool). ‵ (slots (R E) (block_ptr b o) xs' gs)) (filled_but_other n at place at_n other.1) refl $
-    hollow_closed E ! tt new b o rb ro (sym is) room $ returns ! (look_at ! 0 refl) $ free_all ! refl $
+    row_in E ! b o n xs' (filled_but n place) room $
+    rewrite ! 0 (λ (p : Ptr). ‵ (row_of E p n xs' (filled_but n place) (words (block_ptr b o) n))) (sym is) refl $
+    move ! (1 ∷ 0 ∷ []) $ closes ! tt (Hollow E) new (words (block_ptr b o) n) rb ro $ returns ! (look_at ! 0 refl) $ free_all ! refl $
     -- [`self` without its address; its token; the last token]
     suffices ! _ (ends_at 𝓛 (moved E) (left E) c y vunit tt (new, (tt, (tt, tt))) (tt, (tt, (tt, tt)))) $ says_three ! (refl, (λ e. ap (set xs at) (any-default xs place d e p_xs)), refl) $
     feq_i ! (List Val) (vptr rb ro ∷ []) _ refl $ move ! (0 ∷ 1 ∷ 2 ∷ []) $ group ! 3 $ nothing ! $ nothing ! $ nothing ! $ move ! (3 ∷ 0 ∷ 1 ∷ 2 ∷ []) $ group ! 4 $
-    nothing ! $ move ! (2 ∷ 3 ∷ 0 ∷ []) $ group ! 3 $ feq_i ! (List Val) (vunit ∷ []) _ refl $ move ! (1 ∷ 2 ∷ 0 ∷ []) $ group ! 3 $ done !)))))))
+    nothing ! $ move ! (2 ∷ 3 ∷ 0 ∷ []) $ group ! 3 $ feq_i ! (List Val) (vunit ∷ []) _ refl $ move ! (1 ∷ 2 ∷ 0 ∷ []) $ group ! 3 $ done !))))))))

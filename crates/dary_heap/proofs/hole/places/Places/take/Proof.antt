@@ -1,14 +1,13 @@
 -- `take` reads an item out of its place, at any item type. Assumes `Logic`.
-use Rattle.dary_heap.proofs.hole.Walks.{ℕ, ◌+◌, ◌*◌, ◌<◌, ◌^◌, true, false, List, [], ◌∷◌, ◌++◌, ◌≡◌, refl, sym, arith, length, get_or, length-replicate, get_or-replicate, ftrue, fat, flft, full_share, inst_fn, Fn, w64, Val, vint, vstruct, vcons, vnil, WpFn, ◌⊑◌, fact, tables, ‵, raw, ◌⊛◌, some, given, prop, at_ret, ◌$◌, ◌∵◌, !, qed, move, keep, drop, use1, use2, split, split3, fsplit, fjoin, fjoin3, fpack, feq_i, group, pick, learn, regoal, suffices, done, whole, sub, agg, look, forget, stop, fld, load, size_lit, of_opd, bin, and_then, no_more, first, blocks, exec, returns, enter, alloc_all, pass_all, free_all, look_at, get, get_in, through, sets, sets_last, env, usize, yes, no, uint_vals, uint_Tells, Valss, mirs, owns, block_ptr, plain, types_at, heard, nothing, within, as_fields, tuple_type, Ended, Stays, stay_dropped, Goes-dropped, walk_of, ends_at, proved, El, R, args, el_x, elτ, Good, hd, any-default, after, says_four, sz, besides, value_out, room_in, slots}
+use Rattle.dary_heap.proofs.hole.{ℕ, ◌+◌, ◌*◌, ◌<◌, ◌^◌, true, false, List, [], ◌∷◌, ◌++◌, ◌≡◌, refl, sym, arith, length, get_or, length-replicate, get_or-replicate, ftrue, fat, flft, full_share, inst_fn, Fn, w64, Val, vint, vstruct, vcons, vnil, WpFn, ◌⊑◌, fact, tables, ‵, raw, ◌⊛◌, some, given, prop, at_ret, ◌$◌, ◌∵◌, !, qed, move, keep, drop, use1, use2, split, split3, fsplit, fjoin, fjoin3, fpack, feq_i, group, pick, learn, regoal, suffices, done, whole, sub, agg, look, forget, stop, fld, load, size_lit, of_opd, bin, and_then, no_more, first, blocks, exec, returns, enter, alloc_all, pass_all, free_all, look_at, get, get_in, through, sets, sets_last, env, usize, yes, no, uint_vals, uint_Tells, Valss, mirs, owns, block_ptr, plain, types_at, heard, nothing, within, as_fields, tuple_type, Ended, Stays, stay_dropped, Goes-dropped, walk_of, ends_at, proved, El, R, args, el_x, elτ, Good, hd, any-default, after, says_four, sz, besides, value_out, room_in, slots, two_words, words, words_fit, Whole, Hollow, whole_tells, size_fits, offset_fits, row_found, row_in}
 use denote.Struct.Declared.{shape}
 use Rattle.dary_heap.specs.Places.{all_filled, filled_but}
 use Rattle.dary_heap.specs.declared.hole.places.Hole.{Hole}
 use Rattle.dary_heap.specs.declared.hole.places.Places.{Places}
-use Rattle.dary_heap.specs.contracts.hole.places.Places.take as f
 use Rattle.dary_heap.specs.contracts.hole.places.Places.take.Key.{name}
-use Rattle.dary_heap.proofs.hole.PlacesOwned.{two_words, words, words_fit, Whole, Hollow, whole_tells, size_fits, offset_fits, row_found, row_in}
-use Rattle.dary_heap.proofs.hole.places.Places.take.Code as code
 use Rattle.dary_heap.proofs.hole.places.Places.take.Statement.{statement}
+use Rattle.dary_heap.specs.contracts.hole.places.Places.take as f
+use Rattle.dary_heap.proofs.hole.places.Places.take.Code as code
 
 module _ (E : El) where
   abbrev body : Fn

@@ -1,9 +1,7 @@
-use Rattle.dary_heap.proofs.Common.{rules, refl, ap, ◌≡◌, ◌∙◌, List, ◌++◌, length, take, arith, Contents, IsHeapOrdered, IsPermutation-refl, length_permutation}
-use Rattle.dary_heap.proofs.sift.BelowRoot.{below_root}
-use Rattle.dary_heap.proofs.Fronts.{ordered_state}
+use Rattle.dary_heap.proofs.{rules, refl, ap, ◌≡◌, ◌∙◌, List, ◌++◌, length, take, arith, Contents, IsHeapOrdered, IsPermutation-refl, length_permutation, below_root, ordered_state}
 use Rattle.dary_heap.proofs.peek_mut.Loans.{lone_uncounted, lone_unexceeded, none_exceeds, sunk_moved, sunk_unmoved}
-use Rattle.dary_heap.proofs.sift.Uncounted.{none_counted}
-use Rattle.dary_heap.proofs.sift.Written.{same_contents, written_back}
+use Rattle.dary_heap.proofs.sift.Written.{none_counted, same_contents, written_back}
+use Rattle.dary_heap.proofs.peek_mut.methods.PeekMut+T+D.refresh.Goals.{After-self-1}
 use Rattle.dary_heap.proofs.peek_mut.methods.PeekMut+T+D.refresh.Goals as goal
 
 pub returns-then-not-self : goal.returns-then-not-self
@@ -26,41 +24,37 @@ returns-then-not-self g c =
     }
 
 -- the loan's vector holds what the sink left
-written : (g : _) (c : goal.After-self-2-1 g) (ws : List g.row.T.Denot) → take c.args.self.now.items.len (c.sink_with-moved.new.items ++ ws) ≡ c.sink_with-moved.new.items
+written : (g : _) (c : After-self-1 g) (ws : List g.row.T.Denot) → take c.args.self.now.items.len (c.sink_with-moved.new.items ++ ws) ≡ c.sink_with-moved.new.items
 written g c ws =
     let long = c.args.self.now.items.ok.0 in
     written_back _ c.sink_with-moved.new.items ws (omega arith)
 
 -- a heap
-ordered : (g : _) (c : goal.After-self-2-1 g) → IsHeapOrdered g.T.Ord.cmp g.row.D c.sink_with-moved.new.items
+ordered : (g : _) (c : After-self-1 g) → IsHeapOrdered g.T.Ord.cmp g.row.D c.sink_with-moved.new.items
 ordered g c = (rw c.as_mut_slice.ensures.value at c.sink_with-moved.ensures.ordered) c.args.self.now.lent.below_root
 
 pub returns-clause-moved : goal.returns-clause-moved
 returns-clause-moved g c =
     let is = c.as_mut_slice.ensures.value in
-    sunk_moved g.row.D c.args.self.now.items.items c.sink_with-moved.new.items _ (rw is at c.sink_with-moved.ensures.moved) (rw is at c.sink_with-moved.ensures.unchanged) g.met.T.Ord.total (ordered g c)
+    sunk_moved g.row.D g.met.T.Ord.total c.args.self.now.items.items c.sink_with-moved.new.items _ (rw is at c.sink_with-moved.ensures.moved) (rw is at c.sink_with-moved.ensures.unchanged) (ordered g (goal.at.returns-clause-moved g c).After-self-1)
 
 pub returns-clause-greatest : goal.returns-clause-greatest
-returns-clause-greatest g c = rw (written g c _) (ordered_state g.met.T.Ord.total g.row.D _ (ordered g c))
+returns-clause-greatest g c = rw (written g (goal.at.returns-clause-greatest g c).After-self-1 _) (ordered_state g.met.T.Ord.total g.row.D _ (ordered g (goal.at.returns-clause-greatest g c).After-self-1))
 
 pub returns-clause-alone : goal.returns-clause-alone
 returns-clause-alone g c = λ one.
     let xs = c.args.self.now.items.items in
     let is = c.as_mut_slice.ensures.value in
     let still = sunk_unmoved g.row.D xs c.sink_with-moved.new.items _ (rw is at c.sink_with-moved.ensures.moved) (rw is at c.sink_with-moved.ensures.unchanged) (lone_unexceeded g.T.Ord.cmp xs one) in
-    same_contents _ _ (written g c _ ∙ still) refl (lone_uncounted g.row.D (length xs) _ _ one (rw is at c.sink_with-moved.ensures.counted) ∙ ap (λ (it : Contents g.row.T.Denot). it.comparisons) c.heap.view_is)
+    same_contents _ _ (written g (goal.at.returns-clause-alone g c).After-self-1 _ ∙ still) refl (lone_uncounted g.row.D (length xs) _ _ one (rw is at c.sink_with-moved.ensures.counted) ∙ ap (λ (it : Contents g.row.T.Denot). it.comparisons) c.heap.view_is)
 
 pub invariant_of-self : goal.invariant_of-self
 invariant_of-self g c =
-    let is = c.as_mut_slice.ensures.value in
-    let ordered = (rw is at c.sink_with-moved.ensures.ordered) c.args.self.now.lent.below_root in
-    let as_many = length_permutation _ _ (rw is at c.sink_with-moved.ensures.bag) in
-    let long = c.args.self.now.items.ok.0 in
-    let all : length c.sink_with-moved.new.items ≡ c.args.self.now.items.len = omega arith in
-    record { lent = rw (written_back _ _ _ all) record { some = omega (arith, as_many, c.args.self.now.lent.some); below_root = below_root g.row.D _ ordered; whole = λ settled. ordered } }
+    let as_many = length_permutation _ _ (rw c.as_mut_slice.ensures.value at c.sink_with-moved.ensures.bag) in
+    record { lent = rw (written g c _) record { some = omega (arith, as_many, c.args.self.now.lent.some); below_root = below_root g.row.D _ (ordered g c); whole = λ settled. ordered g c } }
 
 pub returns-clause-bag : goal.returns-clause-bag
-returns-clause-bag g c = rw (written g c _) (rw c.as_mut_slice.ensures.value at c.sink_with-moved.ensures.bag)
+returns-clause-bag g c = rw (written g (goal.at.returns-clause-bag g c).After-self-1 _) (rw c.as_mut_slice.ensures.value at c.sink_with-moved.ensures.bag)
 
 pub returns-clause-len : goal.returns-clause-len
 returns-clause-len g c = length_permutation _ _ (returns-clause-bag g c)
