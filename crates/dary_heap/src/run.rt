@@ -154,18 +154,10 @@ pub enum Reply<T: Ord, const D: usize> {
 ///
 /// # Time
 ///
-/// At most the sum of these numbers, in comparisons:
-///
-/// | command | comparisons, at most |
-/// |---|---|
-/// | `Push` | the depth of the new place |
-/// | `Pop`, `PopIf` | the arity times the depth of the last place that remains |
-/// | `Extend` | as [`mend_with`](crate::sift::mend_with) of the items that were added |
-/// | `Append` | as `mend_with` of as many items as the shorter heap had |
-/// | `Retain` | as `mend_with` of all items that are left |
-/// | `DrainSorted` | as many pops as there are items |
-/// | `Loan` | the arity times the depth of the last place, for the end and for each refresh |
-/// | all others | none |
+/// At most the sum of the comparisons that the commands' calls may take. A [`Command::Retain`] counts
+/// as [`mend_with`](crate::sift::mend_with) of all items that are left, a [`Command::DrainSorted`] as
+/// pops of all items, and a [`Command::Loan`] as the arity times the depth of the last place, for the
+/// end and for each refresh.
 pub fn run<T: Ord + Drop, const D: usize, P: FnMut(&T) -> bool>(
     alloc: Global,
     heap: &mut DaryHeap<T, D>,
