@@ -32,7 +32,7 @@ abbrev pub all_edges_of : Graph → List ℕ → List Edge
 all_edges_of g [] = []
 all_edges_of g (u ∷ nodes) = edges_of g u ++ all_edges_of g nodes
 
--- these edges were examined, in turn: those that leave some nodes, of which no two are the same, but perhaps for some that are left of the last
+-- these edges were examined, in turn: all that leave some nodes, of which no two are the same, except perhaps some of the last node
 pub record AreExaminedOnce (g : Graph) (examined : List Edge) : Type 0 where
   pub nodes : List ℕ
   pub distinct : IsDistinct nat_eq nodes

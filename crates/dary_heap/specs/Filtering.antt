@@ -12,14 +12,14 @@ first_no [] = 0
 first_no (true ∷ answers) = suc (first_no answers)
 first_no (false ∷ answers) = 0
 
--- f was asked once about each item, in the order in which they are stored, and those that it answered yes of are left
+-- f was asked once about each item, in the order in which they are stored, and those for which it returned true are left
 pub record IsRetained {T F : Type 0} (calls : F → T → Bool → F → Type 0) (D : ℕ) (f : F) (old new : Contents T) : Type 0 where
   pub answers : List Bool
   pub after : F
   pub all : length answers ≡ length old.items
   pub asked : ReturnsInTurn calls f answers old.items after
   pub bag : IsSameBag (items_where_true answers old.items) new.items
-  -- if each answer was yes, nothing changed
+  -- if it returned true for all, nothing changed
   pub unchanged : first_no answers ≡ length answers → new ≡ old
   -- otherwise the items from the first removed place on were mended
   pub counted : RisesWithin old.comparisons new.comparisons (mend_bound D (length new.items) (length new.items - first_no answers))

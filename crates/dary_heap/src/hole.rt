@@ -1,4 +1,4 @@
-//! The places of a slice, by a pointer: the bottom of the crate, and all that it does by pointers.
+//! The places of a slice, reached by a pointer: all that the crate does with pointers.
 //!
 //! A sift takes an item out of its place, which is a [`Hole`] then, moves other items into the hole, one
 //! after another, and fills it with the item at the end. [`Places`] and [`Hole`] have four small functions

@@ -54,8 +54,8 @@
 //!
 //! # Modules
 //!
-//! From the bottom up: [`sift`] moves items along the paths of the tree, for any judge of items, and
-//! counts comparisons; [`heap`] has the heap, [`peek_mut`] its greatest item for reading and
+//! From the bottom up: [`sift`] moves items along the paths of the tree, compared and counted by a
+//! [`Judge`](sift::Judge); [`heap`] has the heap, [`peek_mut`] its greatest item for reading and
 //! writing, and [`iter`] its iterators; [`run`] carries out lists of commands, and
 //! [`shortest_path`] searches a graph.
 #![tactic(auto)]

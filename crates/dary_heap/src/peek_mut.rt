@@ -1,11 +1,10 @@
 //! The greatest item of a heap, to be read, written or taken out.
 //!
-//! [`PeekMut`] has the heap's vector in its own hands, and an empty one stands in the heap until it
-//! ends. So no call of it allocates memory.
+//! [`PeekMut`] holds the heap's vector, and an empty one stands in the heap until it ends. So no
+//! call of it allocates memory.
 //!
 //! The contracts call a `PeekMut` a *loan*, and its item the one *on loan*. A clause sees a loan by
-//! the words of `specs/PeekMut.antt`, and what its end leaves behind the reference as `exit.0.now`,
-//! the heap's contents.
+//! the words of `specs/PeekMut.antt`, and as `exit.0.now` the heap's contents after its end.
 ghost use Rattle.dary_heap.specs.Loan.{IsLent, IsLent-prop, IsExceeded};
 
 use crate::heap::DaryHeap;

@@ -114,10 +114,10 @@ pub enum Reply<T: Ord, const D: usize> {
 /// [`as_slice`](DaryHeap::as_slice), at the start and at the end.
 ///
 /// If there is room for `n` items at the start, or after a [`Command::Reserve`] of `n` that was
-/// carried out, the next `n` pushes succeed if only pushes, pops, questions and counts come
-/// between. If nothing else comes at all, there is room for the rest of them afterwards. A drain
-/// and a loan reserve room for their reply before they begin. On an empty heap they never fail, nor
-/// does a drain of no items or a loan without acts.
+/// carried out, the next `n` pushes succeed if only pushes, pops, `Ask` and `Len` come between. If
+/// nothing else comes at all, there is room for the rest of them afterwards. A drain and a loan
+/// reserve room for their reply before they begin. On an empty heap they never fail, nor does a
+/// drain of no items or a loan without acts.
 ///
 /// # Preconditions
 ///
@@ -187,15 +187,13 @@ pub fn run<T: Ord + Drop, const D: usize, P: FnMut(&T) -> bool>(
     Ok(replies)
 }
 
-/// States a law: without ties, the replies are the same at every arity. It does nothing when it
-/// runs.
+/// States a law: the replies are the same at every arity. It does nothing when it runs.
 ///
-/// Take any two runs of the bag machine from states with the same bag, by the same commands. No
-/// command holds a predicate or a heap or drains in slice order, no two different values of the bag
-/// and the commands compare equal, and no memory allocation fails. Then the replies are equal, and
-/// so are the bags at the end. The machine knows no arity, so this holds of what [`run`] returns at
-/// any two. For a proof, the lemma `RunsUnrefused-from` of `proofs/run/SameReplies.antt` leads there
-/// from the clause `runs`.
+/// Two runs of the bag machine by the same commands, from states with the same bag, give the same
+/// replies and leave the same bag, if no command holds a predicate or a heap or drains in slice
+/// order, no two different values of the bag and the commands compare equal, and no memory
+/// allocation fails. The machine knows no arity, so this holds of what [`run`] returns at any two:
+/// the lemma `RunsUnrefused-from` of `proofs/run/SameReplies.antt` leads from its clause `runs` there.
 ///
 /// # Examples
 ///

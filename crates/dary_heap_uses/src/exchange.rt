@@ -1,4 +1,4 @@
-//! An item exchanged: with a heap, in one way down and without memory, and between two heaps, of which both
+//! Exchanges of an item: with a heap, in one way down and without memory, and between two heaps, of which both
 //! change or neither.
 ghost use Rattle.std.specs.Prelude.{◌≡◌, ◌++◌, ◌∷◌, length};
 ghost use Rattle.dary_heap.specs.Bag.{IsSameBag, IsGreatest};

@@ -8,8 +8,8 @@ use dary_heap::{BinaryHeap, DaryHeap};
 use std::alloc::{AllocError, Global};
 use std::{collections, mem};
 
-/// Adds a price. Where std's push fails with `AllocError`, this heap's gives the item back, and
-/// `map_err` drops it.
+/// Adds a price. `?` makes `AllocError` of the error of std's push. This heap's returns the item, which
+/// `map_err` drops.
 pub fn add_price(prices: &mut BinaryHeap<u32>, price: u32) -> Result<(), AllocError>
     ensures bag { OnOk result (IsSameBag (price ∷ prices.old.items) prices.new.items) }
     ensures unchanged { OnErr result (prices.new ≡ prices.old) }

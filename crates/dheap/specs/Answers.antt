@@ -3,7 +3,7 @@ use Rattle.std.specs.Prelude.{ℕ, ℤ, true, false, List, [], ◌∷◌, ◌++�
 use Rattle.std.specs.Fmt.{signed_decimal}
 use Rattle.dary_heap.specs.Machine.{Reply, Pushed, Popped, Asked, Size, Done, Taken}
 
--- the numbers parted by one space
+-- the numbers, separated by one space
 abbrev pub listing : List ℤ → List ℕ
 listing [] = codes "none"
 listing (x ∷ xs) = signed_decimal x ++ flat_map (λ y. codes " " ++ signed_decimal y) xs
@@ -26,6 +26,6 @@ abbrev pub line : Option (List ℕ) → List ℕ
 line None = []
 line (Some text) = text ++ codes "\n"
 
--- the answers to the replies, one a line
+-- the answers to the replies, one per line
 abbrev pub text : List (Reply ℤ) → List ℕ
 text replies = flat_map (λ reply. line (answer reply)) replies

@@ -9,7 +9,7 @@ use Rattle.dheap.specs.Words.{IsNumber, IsCount}
 use Rattle.dheap.specs.declared.serve.line.Line.{Line}
 use Rattle.dheap.specs.declared.serve.line.Line.TheVariants.{Blank, Push, Pop, Len, Test, PopIf, Keep, Sorted}
 
--- the lines, parted by line feeds
+-- the lines, separated by line feeds
 abbrev pub lines_of : List ℕ → List (List ℕ)
 lines_of script = slice_split (λ b. b == 10) script
 
@@ -22,7 +22,7 @@ lines_left (Some rest) = lines_of rest.now
 abbrev pub is_blank : ℕ → Bool
 is_blank b = (b == 32) || (b == 9) || (b == 13)
 
--- the words of a line, parted by blanks in any number
+-- the words of a line, separated by any number of blanks
 abbrev pub words_of : List ℕ → List (List ℕ)
 words_of line = filter (λ word. not (length word == 0)) (slice_split is_blank line)
 

@@ -22,7 +22,7 @@ use std::alloc::{AllocError, Global};
 use std::io;
 use std::io::{Read, Write};
 
-/// From so many bytes on, answers are not held back.
+/// Answers are written once they have so many bytes.
 const HELD: usize = 1 << 13;
 
 /// The longest line of a number is a sign, 20 digits and a line feed.

@@ -59,7 +59,7 @@ impl<T: Drop> From<AllocFailed<T>> for Fault {
 }
 
 impl From<io::Error> for Fault {
-    // Memory that the program asked for in vain has no number of the system's.
+    // Memory allocation that fails in the program has no error number of the system.
     fn from(error: io::Error) -> Fault {
         if error.kind() == ErrorKind::OutOfMemory && error.raw_os_error().is_none() {
             Fault::NoMemory

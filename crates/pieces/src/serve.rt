@@ -8,7 +8,7 @@ use std::alloc::{AllocError, Global};
 use std::io;
 use std::io::{Read, Write};
 
-/// From so many bytes on, lines are not held back.
+/// Lines are written once they have so many bytes.
 const HELD: usize = 1 << 13;
 
 /// Merges the bytes of each word that `input` holds by a table, writes the pieces of each on a line to `output`, and
@@ -52,7 +52,7 @@ fn print_all<R: Read, W: Write>(
     Ok(())
 }
 
-/// Adds the pieces of a word, parted by spaces, and a line feed.
+/// Adds the pieces of a word, separated by spaces, and a line feed.
 fn put_word(
     alloc: Global,
     vocabulary: &Vocabulary,

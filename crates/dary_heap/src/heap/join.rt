@@ -93,7 +93,7 @@ fn take_in<T: Ord, const D: usize>(items: &mut Vec<T>, others: &mut Vec<T>, judg
     mend_with::<T, ByOrd, D>(items.as_mut_slice(), start, judge);
 }
 
-/// What gives an item: the item itself, or a reference to one that is copied.
+/// What an iterator gives for an item: the item itself, or a reference to one, which is copied.
 trait Element<T>: Drop {
     ghost value: { Self → T };
 
@@ -140,8 +140,7 @@ fn pour<T, X: Element<T>, I: Iterator<Item = X>>(
     (items, (rest, false))
 }
 
-/// Reserves room for one item more and, if there is memory for them, for `others` beyond, of which
-/// so many needn't come.
+/// Reserves room for one item and, if there is memory for it, for `others` more, which may not come.
 fn make_room<T>(items: &mut Vec<T>, others: usize) -> Result<(), AllocError>
     ensures items { items.new.items ≡ items.old.items }
     ensures len { vec_len items.new ≡ vec_len items.old }

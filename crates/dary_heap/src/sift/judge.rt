@@ -36,8 +36,8 @@ impl Count {
 
 /// What compares items: it has an order on them, and a count of the comparisons that it made.
 ///
-/// The order is one for the type, total and transitive. The count is each value's own. Only clauses
-/// read the two. A caller may write a judge of its own.
+/// The order belongs to the type of the judge, the count to each judge. Only clauses read them. A
+/// caller may write a judge of its own.
 ///
 /// # Examples
 ///

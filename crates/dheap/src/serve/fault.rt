@@ -13,7 +13,7 @@ pub enum Fault {
     Usage,
     /// The line of this number, counted from 1, is no command.
     BadLine(u64),
-    /// A growth was refused.
+    /// Memory allocation failed.
     NoMemory,
     /// The input or the output failed.
     InputOutput,
@@ -71,7 +71,7 @@ impl<T: Drop> From<AllocFailed<T>> for Fault {
 impl From<io::Error> for Fault {
     ghost from_gives = { λ _ fault. 3 ≤ status_of fault };
 
-    // A growth that was refused has no number of the system's.
+    // Memory allocation that fails in the program has no error number of the system.
     fn from(error: io::Error) -> Fault {
         if error.kind() == ErrorKind::OutOfMemory && error.raw_os_error().is_none() {
             Fault::NoMemory
