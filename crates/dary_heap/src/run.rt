@@ -65,15 +65,15 @@ pub enum Command<T: Ord, const D: usize, P> {
     Extend(Vec<T>),
     /// Adds the items of another heap.
     Append(DaryHeap<T, D>),
-    /// Reserves room for so many more items.
+    /// Reserves room for this many more items.
     Reserve(usize),
     /// Shrinks the capacity to this number, or to the length if that is greater.
     Shrink(usize),
     /// Drops all items.
     Clear,
-    /// Removes all items, and returns the first so many of them in the order of `as_slice`.
+    /// Removes all items, and returns this many of them, the first in the order of `as_slice`.
     Drain(usize),
-    /// Pops all items, and returns the first so many of them.
+    /// Pops all items, and returns this many of them, the first popped.
     DrainSorted(usize),
     /// Lends a greatest item, the one that a pop would remove, for these acts and this end.
     Loan(Vec<Act<T>>, End),

@@ -64,7 +64,7 @@ pub fn shortest_route(
     shortest_path(alloc, &edges, start, end)
 }
 
-/// For each place the edges of the roads that begin there.
+/// Returns for each place the edges of the roads that begin there.
 fn edges_of(alloc: Global, places: usize, roads: &[Road]) -> Result<Vec<Vec<Edge>>, AllocError>
     requires { IsJoining places roads.now }
     ensures { IfOk result (λ edges. IsMap places roads.now edges.items) }
@@ -80,7 +80,7 @@ fn edges_of(alloc: Global, places: usize, roads: &[Road]) -> Result<Vec<Vec<Edge
     Ok(edges)
 }
 
-/// So many lists without edges.
+/// Returns an empty list of edges for each place.
 fn empty_rows(alloc: Global, places: usize) -> Result<Vec<Vec<Edge>>, AllocError>
     ensures long { IfOk result (λ rows. length rows.items ≡ places) }
     ensures empty { IfOk result (λ rows. All (λ row. row.items ≡ []) rows.items) }

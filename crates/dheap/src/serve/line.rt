@@ -25,7 +25,7 @@ pub enum Line {
     PopIf(i64),
     /// Keeps the numbers that are at least this.
     Keep(i64),
-    /// Takes all numbers out, and gives so many of the greatest in descending order.
+    /// Takes all numbers out, and gives this many of the greatest, in descending order.
     Sorted(usize),
 }
 
@@ -46,7 +46,7 @@ impl Line {
 
 /// Reads the first line of a script in one pass, and gives what comes after its line feed, if that line is
 /// a push, a pop, a count or a test and written plainly: with one space before its number, if it has one,
-/// no plus and at most 19 digits, and a line feed at once after it. No answer says nothing of the line.
+/// no plus and at most 19 digits, and a line feed at once after it. `None` says nothing of the line.
 pub fn plain(script: &[u8]) -> Option<(Line, &[u8])>
     ensures { IfSome result (λ read. IsFirstLine script.now read.0 read.1.now) }
 {
@@ -92,8 +92,8 @@ fn plain_natural(script: &[u8]) -> Option<(u64, &[u8])>
     }
 }
 
-/// The number that the digits write that stand first, at most 19 of them, and how many they are. A number
-/// of so many digits is in range.
+/// The number that the leading digits write, at most 19 of them, and how many they are. With 19 digits it is
+/// in range.
 fn leading_digits(script: &[u8]) -> (u64, usize)
     ensures { (result.1 ≤ length script.now) × AllDigits 10 (take result.1 script.now)
         × (result.0 ≡ digits_value 10 (take result.1 script.now)) }
@@ -110,7 +110,7 @@ fn leading_digits(script: &[u8]) -> (u64, usize)
     (number, most)
 }
 
-/// The first three words, as far as there are so many.
+/// The first three words, or those that there are.
 fn first_words(line: &[u8]) -> (Option<&[u8]>, Option<&[u8]>, Option<&[u8]>)
     ensures { MatchOption result.0 (words_of line.now ≡ [])
         (λ first. MatchOption result.1 (words_of line.now ≡ first.now ∷ [])
