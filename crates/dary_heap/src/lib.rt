@@ -54,10 +54,10 @@
 //!
 //! # Modules
 //!
-//! From the bottom up: [`sift`] moves items along the paths of the tree, compared and counted by a
-//! [`Judge`](sift::Judge); [`heap`] has the heap, [`peek_mut`] its greatest item for reading and
-//! writing, and [`iter`] its iterators; [`run`] carries out lists of commands, and
-//! [`shortest_path`] searches a graph.
+//! From the bottom up: [`sift`] moves items along the paths of the tree, by a
+//! [`Judge`](sift::Judge) that compares items and counts; [`heap`] has the heap, [`peek_mut`] its
+//! greatest item for reading and writing, and [`iter`] its iterators; [`run`] carries out lists of
+//! commands, and [`shortest_path`] searches a graph.
 #![tactic(auto)]
 
 pub mod heap;
