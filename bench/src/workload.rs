@@ -191,7 +191,7 @@ pub fn of_crate<T: Item>(arity: usize) -> Work<T, T::Mark> {
     at_arity!(arity, work::<T>)
 }
 
-/// The work over std's heap. What follows the set-up is counted.
+/// Makes a call over a heap. What follows the set-up is counted.
 pub fn work<T: Item, Q: Queue<T>>(call: Call, task: &Task<T>, out: &mut [T::Mark]) -> usize {
     counting::begin();
     let heap: Q = match call {
