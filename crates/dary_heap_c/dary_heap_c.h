@@ -92,8 +92,8 @@ struct dheap_sequenced {
     uint64_t value; /* as above */
 };
 
-/* Declares a function for max-heaps and for min-heaps of each kind of items, ten in all. The parameters stand behind its
- * name, and the type of an item is left out: DARY_HEAP_FUNCTION(push, *items, size_t len, size_t arity) declares
+/* Declares a function for max-heaps and for min-heaps of each kind of items, ten in all. The parameters stand behind
+ * its name, and the type of an item is left out: DARY_HEAP_FUNCTION(push, *items, size_t len, size_t arity) declares
  *
  *   bool dheap_max_push_i64(int64_t *items, size_t len, size_t arity);
  *
@@ -130,8 +130,8 @@ DARY_HEAP_FUNCTION(pop, *items, size_t len, size_t arity);
  * They are a heap afterwards. If len is 0, nothing happens.
  *
  * This does the work of a pop and a push in one way down. The new item is compared on its way down, so one that
- * stays near the front costs little. One that sinks to the last depth takes the arity in comparisons for each level, where a
- * pop and a push take one less a level and a short way up.
+ * stays near the front costs little. One that sinks to the last depth takes the arity in comparisons for each
+ * level, where a pop and a push take one less a level and a short way up.
  *
  * Cost: the arity times the depth of place len - 1. None if len is 0. */
 DARY_HEAP_FUNCTION(replace, *items, size_t len, size_t arity);
@@ -174,6 +174,9 @@ DARY_HEAP_FUNCTION(sort, *items, size_t len, size_t arity);
  *
  * Cost: len - 1. None if len is 0. */
 DARY_HEAP_FUNCTION(is_heap, const *items, size_t len, size_t arity, bool *answer);
+
+#undef DARY_HEAP_FUNCTION
+#undef DARY_HEAP_OF_ORDER
 
 #ifdef __cplusplus
 }

@@ -4,7 +4,7 @@ ghost use Rattle.std.specs.Cmp.{back_total, int_cmp_total};
 ghost use Rattle.std.specs.Ordering.{int_cmp};
 
 use crate::{Host, Tested};
-use dary_heap::run::{Command, Reply, run};
+use dary_heap::run::{Command, run};
 use dary_heap::sift::{
     Judge, Tally, build_with, fix_with, mend_with, pop_with, push_with, remove_with,
     replace_first_with,
