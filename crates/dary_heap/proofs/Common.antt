@@ -1,4 +1,4 @@
--- Names of std and of `specs` that several proofs cite, passed on from one place. Declares nothing.
+-- What the proofs of this crate import from elsewhere: names of std, of the logic and of `specs`.
 pub use borrow.Author.Tests.{eqb-false, eqb-true, ltb-true}
 pub use denote.Ref.{Bor}
 pub use mathlib.Core.Bool.{◌&&◌}

@@ -1,4 +1,4 @@
--- Names of std and of `specs` that several proofs cite, passed on from one place. Declares nothing.
+-- What the proofs of this crate import from elsewhere: names of std, of the logic and of `specs`.
 pub use Rattle.std.proofs.Common.{Contains, List, None, Option, Some, [], ap, append-nil, append_assoc, arith, drop, get_or, get_or-set_other, get_or-set_same, inl, inr, is_some, length, length-append, length-set, length-take-le, refl, slice_get, slice_set, subst, suc, sym, take, true, vec_capacity, vec_len, zero, ℕ, ◌%◌, ◌*◌, ◌++◌, ◌+◌, ◌-◌, ◌<◌, ◌^◌, ◌∙◌, ◌∷◌, ◌≡◌, ◌≢◌, ◌≤◌, ◌⊎◌}
 pub use Rattle.std.proofs.Math.Seq.{drop-append-add, get_or-append_seam, map-set_same, take-add, take-append_seam}
 pub use Rattle.std.proofs.lemmas.Bool.{cases_eq, cases_lt, true≢false}

@@ -1,4 +1,4 @@
--- Names of std and of `specs` that several proofs cite, passed on from one place. Declares nothing.
+-- What the proofs of this crate import from elsewhere: names of std, of the logic and of `specs`.
 pub use Rattle.std.proofs.Common.{All, Bool, Contains, Err, IfNone, IfOk, IfSome, IsOk, List, None, Ok, OnErr, OnOk, Option, Result, Some, Vec, [], ap, append-nil, append_assoc, arith, drop, false, get_or, get_or-set_other, get_or-set_same, inl, inr, leb, length, length-append, length-set, ltb, map, min, nat_eq, not, refl, rules, slice_get, slice_set, subst, suc, sym, take, true, vec_capacity, vec_len, zero, ℕ, ◌&&◌, ◌*◌, ◌++◌, ◌+◌, ◌-◌, ◌<◌, ◌∙◌, ◌∷◌, ◌≡◌, ◌≢◌, ◌≤◌, ◌⊎◌}
 pub use Rattle.std.proofs.lemmas.Bool.{cases_eq, cases_lt, true≢false}
 pub use Rattle.std.proofs.lemmas.Fn.{FoldsTo-push, filter_same}

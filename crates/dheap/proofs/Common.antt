@@ -1,4 +1,4 @@
--- Names of std and of `specs` that several proofs cite, passed on from one place. Declares nothing.
+-- What the proofs of this crate import from elsewhere: names of std, of the logic and of `specs`.
 pub use borrow.Author.Tests.{tests}
 pub use Rattle.std.proofs.Common.{All, Bool, Err, FitsSigned, IfErr, IfSome, List, None, Ok, OnOk, Option, Result, Some, [], ap, append-nil, append_assoc, arith, codes, cond, drop, false, flat_map, get_or, inl, inr, int_le, is_some, length, length-set, lit<, map, neg_ℤ, not, of_calls, option_to_list, pos, refl, rules, set, subst, subst₂, suc, sym, take, true, zero, ℕ, ℤ, ◌%◌, ◌&&◌, ◌*◌, ◌++◌, ◌+◌, ◌-ℤ◌, ◌-◌, ◌/◌, ◌<◌, ◌==◌, ◌^◌, ◌||◌, ◌∙◌, ◌∷◌, ◌≡◌, ◌≤◌}
 pub use Rattle.std.proofs.Math.Bool.{true≢false}
