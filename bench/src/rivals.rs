@@ -38,7 +38,7 @@ pub fn of_numbers(call: Call, arity: usize) -> Vec<Rival<i64, i64>> {
     let mut rivals = of_items(call, arity);
     for rival in &mut rivals {
         rival.count = match rival.name {
-            HERE => Some(by_function(function!(bench_counted(i64) -> i64), call, arity)),
+            HERE => Some(linked(function!(bench_counted(i64) -> i64), call, arity)),
             CRATE => Some(counted(call, of_crate(arity))),
             STD => Some(counted(call, work::<_, BinaryHeap<_>>)),
             _ => None,
@@ -50,14 +50,14 @@ pub fn of_numbers(call: Call, arity: usize) -> Vec<Rival<i64, i64>> {
 /// Those that make a call.
 pub fn of_items<T: Foreign>(call: Call, arity: usize) -> Vec<Rival<T, T::Mark>> {
     let mut runs = vec![
-        (HERE, by_function(T::LIBRARY, call, arity)),
+        (HERE, linked(T::LIBRARY, call, arity)),
         (CRATE, in_rust(of_crate(arity), call)),
-        (RATTLE_STD, by_function(T::LIBRARY, call, foreign::STD)),
+        (RATTLE_STD, linked(T::LIBRARY, call, foreign::STD)),
         (STD, in_rust(work::<T, BinaryHeap<T>>, call)),
     ];
     for (name, heap) in [(CPP, foreign::STD), (BOOST, arity)] {
         if let Some(function) = in_cpp::<T>(call, heap) {
-            runs.push((name, by_function(function, call, heap)));
+            runs.push((name, linked(function, call, heap)));
         }
     }
     let rivals = runs.into_iter().map(|(name, run)| Rival {
@@ -75,7 +75,7 @@ fn writes_slice(call: Call) -> bool {
     !matches!(call, Copy | Pop | Sorted | Churn | Turns)
 }
 
-fn by_function<T: Foreign>(
+fn linked<T: Foreign>(
     function: Function<T::Given, T::Mark>,
     call: Call,
     heap: usize,
