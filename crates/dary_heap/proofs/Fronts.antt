@@ -1,5 +1,5 @@
 -- Which item is the first once an item came in.
-use Rattle.dary_heap.proofs.Common.{◌≡◌, ◌≢◌, ℕ, inl, inr, zero, suc, ◌<◌, List, [], ◌∷◌, ◌++◌, length, refl, sym, ap, ◌∙◌, subst, arith, Some, slice_get, Contains, IsPermutation, if◌then◌else◌, length-append, slice_get_within, Contains-append_cases, Contains-push, IsPermutation-refl, IsPermutation-sym, Contains-permutation, length_permutation, IsTotalOrder, is_gt, Ordering, Less, Equal, Greater, IsHeapOrdered, StaysFirst, IsState, IsSameState, front, front_with}
+use Rattle.dary_heap.proofs.Common.{◌≡◌, ◌≢◌, ℕ, inl, inr, zero, suc, ◌<◌, List, [], ◌∷◌, ◌++◌, length, refl, sym, ap, ◌∙◌, subst, arith, Some, slice_get, Contains, IsPermutation, if◌then◌else◌, length-append, slice_get_within, Contains-append_cases, Contains-push, IsPermutation-refl, IsPermutation-sym, Contains-permutation, length_permutation, IsTotalOrder, is_gt, Ordering, Greater, IsHeapOrdered, StaysFirst, IsState, IsSameState, front, front_with}
 use Rattle.dary_heap.proofs.Order.{slice_get-append, first_is_greatest, not_greater-trans, read, slice_get-push}
 
 -- the one item of a list
@@ -40,8 +40,7 @@ module _ {X : Type 0} {cmp : X → X → Ordering} (total : IsTotalOrder cmp) (D
 
   by_test : (xs : List X) (f : X) → slice_get xs 0 ≡ Some f → IsHeapOrdered cmp D xs → ws ≡ xs ++ x ∷ [] → StaysFirst cmp (length xs) ws zs → (r : Ordering) → cmp x f ≡ r → slice_get zs 0 ≡ Some (if is_gt r then x else f)
   by_test xs f first before is stays Greater e = above xs f first before is e
-  by_test xs f first before is stays Less e = below xs f first is stays (λ g. cc)
-  by_test xs f first before is stays Equal e = below xs f first is stays (λ g. cc)
+  by_test xs f first before is stays r e = below xs f first is stays (λ g. cc)
 
   pub pushed_front : (xs : List X) → IsHeapOrdered cmp D xs → ws ≡ xs ++ x ∷ [] → StaysFirst cmp (length xs) ws zs → front zs ≡ Some (front_with cmp x (front xs))
   pushed_front [] before is stays = let t = top [] is in t.1 ∙ ap Some (sym (alone x t.0 t.2))

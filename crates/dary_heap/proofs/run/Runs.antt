@@ -1,5 +1,5 @@
 -- A run goes on by one command, which asks of the caller and brings in what all commands do.
-use Rattle.dary_heap.proofs.Common.{◌≡◌, ℕ, ◌+◌, ◌≤◌, Bool, List, [], ◌∷◌, ◌++◌, length, refl, ap, arith, Ordering, charge, Contents, Command, Reply, Step, Steps, last_state, IsState, IsServed, Runs, Serves, room, sure_after, All, Contains, sym, subst, append_assoc, All-contains, All-contains_itself, All-weaker, Contains-append_left, Contains-append_right, Mut, Bor, IsCallableOn, items_in, predicates_in}
+use Rattle.dary_heap.proofs.Common.{◌≡◌, ℕ, ◌+◌, ◌≤◌, Bool, List, [], ◌∷◌, ◌++◌, length, refl, ap, arith, Ordering, charge, Contents, Command, Reply, Step, Steps, last_state, IsState, IsServed, Runs, Serves, room, sure_after, All, Contains, sym, subst, append_assoc, All-contains, All-contains_itself, All-weaker, Contains-append_left, Contains-append_right, Mut, Bor, IsCallableOn, items_in, predicates_in, zero-le}
 use Rattle.dary_heap.specs.Bounds.{charges}
 use Rattle.dary_heap.specs.Run.{PushesServed, sure_at_end}
 use Rattle.dary_heap.specs.Machine as machine
@@ -29,7 +29,7 @@ module _ {T P : Type 0} where
   sure_after-fewer : (few many : ℕ) (command : Command T P) (reply : Reply T) → few ≤ many → sure_after few command reply ≤ sure_after many command reply
   sure_after-fewer few many (machine.Push x) reply h = omega arith
   sure_after-fewer few many (machine.Reserve n) machine.Done h = omega arith
-  sure_after-fewer few many command reply h = omega arith
+  sure_after-fewer few many command reply h = search zero-le
 
 -- a run of a heap goes on by one command
 module _ {T P : Type 0} {cmp : T → T → Ordering} {calls : P → T → Bool → P → Type 0} {D : ℕ} where

@@ -1,5 +1,5 @@
 -- Without ties, questions and refusals, two runs from the same bag give the same replies and leave the same bag: their states are the same ones, and so both may be read from the first.
-use Rattle.dary_heap.proofs.Common.{◌≡◌, ◌≢◌, ℕ, zero, suc, Bool, true, false, List, [], ◌∷◌, ◌++◌, refl, sym, ap, ◌∙◌, subst, arith, rules, Option, Some, None, AllByRecursion, IsTotalOrder, Ordering, Equal, Greater, Contains-append_left, Contains-append_right, IsPermutation-refl, IsPermutation-sym, IsPermutation-trans, IsPermutation-cons, length_permutation, items_in, written, IsSameBag, IsGreatest, IsGreatest-same_bag, Act, Write, Refresh, End, PutBack, TakeOut, Seen, Old, Changed, Command, Reply, Push, Pop, Len, Extend, Append, Reserve, Shrink, Clear, DrainSorted, Loan, Pushed, Popped, Size, Done, Taken, Loaned, Acts, Ends, Pops, PopsInTurn, Step, Steps, last_state, Contents, Runs, IsState, IsSameState, front}
+use Rattle.dary_heap.proofs.Common.{◌≡◌, ◌≢◌, ℕ, zero, suc, Bool, true, false, List, [], ◌∷◌, ◌++◌, refl, sym, ap, ◌∙◌, subst, arith, Option, Some, None, AllByRecursion, IsTotalOrder, Ordering, Equal, Greater, Contains-append_left, Contains-append_right, IsPermutation-refl, IsPermutation-sym, IsPermutation-trans, IsPermutation-cons, length_permutation, items_in, written, IsSameBag, IsGreatest, IsGreatest-same_bag, Act, Write, Refresh, End, PutBack, TakeOut, Seen, Old, Changed, Command, Reply, Push, Pop, Len, Extend, Append, Reserve, Shrink, Clear, DrainSorted, Loan, Pushed, Popped, Size, Done, Taken, Loaned, Acts, Ends, Pops, PopsInTurn, Step, Steps, last_state, Contents, Runs, IsState, IsSameState, front}
 use Rattle.dary_heap.specs.TwoArities.{HasNoTies, IsSettled, IsUnrefused, RunsUnrefused, SameRepliesAtTwoArities}
 use Rattle.dary_heap.proofs.Bags.{holds_none, Contains-first, IsAmong, IsAmong-cons, IsAmong-tail, IsAmong-append, IsAmong-same}
 use Rattle.dary_heap.proofs.Cancelling.{IsPermutation-uncons}
@@ -87,7 +87,7 @@ module _ {X P : Type 0} {cmp : X → X → Ordering} (calls : P → X → Bool �
   acted held rest (Refresh ∷ acts) (Changed false ∷ seen) (Changed false ∷ seen') last last' left left' among wrote h k =
       let more = acted held rest acts seen seen' last last' left left' among wrote h.1 k.1 in
       record { told = ap (λ s. Changed false ∷ s) more.told; held = more.held; rest = more.rest }
-  acted held rest acts seen seen' last last' left left' among wrote h k = search rules
+  acted held rest acts seen seen' last last' left left' among wrote h k = absurd (assumption)
 
   ended : (last last' : X) (left left' : List X) (end : End) (given given' : Option X) (new new' : List X) → last ≡ last' → IsSameBag left left' → IsAmong values (last ∷ left) → Ends cmp last left end given new → Ends cmp last' left' end given' new' → (given ≡ given') × IsSameBag new new' × IsAmong values new
   ended last last' left left' PutBack None None new new' e same among h k =
@@ -95,7 +95,7 @@ module _ {X P : Type 0} {cmp : X → X → Ordering} (calls : P → X → Bool �
       (refl, same_bag (last ∷ left) new new' h.0 (IsPermutation-trans _ _ _ whole k.0), IsAmong-same values (last ∷ left) new h.0 among)
   ended last last' left left' TakeOut (Some x) (Some y) new new' e same among h k =
       (ap Some (h.0 ∙ e ∙ sym k.0), same_bag left new new' h.1 (IsPermutation-trans _ _ _ same k.1), IsAmong-same values left new h.1 (IsAmong-tail values last left among))
-  ended last last' left left' end given given' new new' e same among h k = search rules
+  ended last last' left left' end given given' new new' e same among h k = absurd (assumption)
 
   loaned : (acts : List (Act X)) (end : End) (old : List X) (told told' : List (Seen X) × Option X) (new new' : List X) → IsAmong values old → IsAmong values (written acts) → Step cmp calls old (Loan acts end) (Loaned (Some told)) new → Step cmp calls old (Loan acts end) (Loaned (Some told')) new' → StepsAlike (Loaned (Some told)) (Loaned (Some told')) new new'
   loaned acts end old told told' new new' among wrote h k =
@@ -126,7 +126,7 @@ module _ {X P : Type 0} {cmp : X → X → Ordering} (calls : P → X → Bool �
   steps_alike (Loan acts end) commands old (Loaned (Some told)) (Loaned None) new new' settled brought among fine fine' h k = absurd (let none = ap front k.0 in let some = h.4 in cc)
   steps_alike (Loan acts end) commands old (Loaned (Some told)) (Loaned (Some told')) new new' settled brought among fine fine' h k =
       loaned acts end old told told' new new' among (λ y in'. brought y (Contains-append_left (written acts) (items_in commands) y in')) h k
-  steps_alike command commands old reply reply' new new' settled brought among fine fine' h k = search rules
+  steps_alike command commands old reply reply' new new' settled brought among fine fine' h k = absurd (assumption)
 
   -- what the later commands bring is brought by all of them
   brought_later : (command : Command X P) (commands : List (Command X P)) → IsAmong values (items_in (command ∷ commands)) → IsAmong values (items_in commands)
@@ -145,7 +145,7 @@ module _ {X P : Type 0} {cmp : X → X → Ordering} (calls : P → X → Bool �
       let to = one_state new new' here.bag here.among state (Step-state calls total old command reply' new' begun step) in
       let more = runs_alike commands new new' replies replies' states states' settled.1 (brought_later command commands brought) here.among state to fine.1 fine'.1 run.1 run'.1 in
       (ap (λ r. r ∷ replies) here.replies ∙ ap (λ rs. reply' ∷ rs) more.0, more.1)
-  runs_alike commands old old' replies replies' states states' settled brought among begun from fine fine' run run' = search rules
+  runs_alike commands old old' replies replies' states states' settled brought among begun from fine fine' run run' = absurd (assumption)
 
 module _ {X P : Type 0} {cmp : X → X → Ordering} (calls : P → X → Bool → P → Type 0) (total : IsTotalOrder cmp) where
   pub same_replies : SameRepliesAtTwoArities cmp calls

@@ -1,5 +1,5 @@
 -- Each step of the machine leads from a state to a state, of which it reads no more than the bag and the front: the order of the list behind the first item is free.
-use Rattle.dary_heap.proofs.Common.{◌≡◌, ◌≢◌, Bool, List, [], ◌∷◌, refl, sym, ap, ◌∙◌, subst, rules, inl, inr, Option, Some, None, if◌then◌else◌, IsTotalOrder, is_gt, ordering_reverse, Ordering, Less, Equal, Greater, Contains-permutation, IsSameBag, IsGreatest, IsGreatest-same_bag, End, PutBack, TakeOut, Command, Reply, Push, PopIf, Loan, Pushed, Popped, Loaned, Ends, Step, IsState, IsSameState, front, front_with, ℕ, zero, suc, false, length, arith, nil_from_length, IsPermutation-sym, IsPermutation-trans, IsPermutation-cons, IsPermutation-append_left, length_permutation, Retain, Extend, Drain, Done, ExtendRefused, Taken, Pops, PopsInTurn, IsJoined}
+use Rattle.dary_heap.proofs.Common.{◌≡◌, ◌≢◌, Bool, List, [], ◌∷◌, refl, sym, ap, ◌∙◌, subst, rules, inl, inr, Option, Some, None, if◌then◌else◌, IsTotalOrder, is_gt, ordering_reverse, Ordering, Greater, Contains-permutation, IsSameBag, IsGreatest, IsGreatest-same_bag, End, PutBack, TakeOut, Command, Reply, Push, PopIf, Loan, Pushed, Popped, Loaned, Ends, Step, IsState, IsSameState, front, front_with, ℕ, zero, suc, false, length, arith, nil_from_length, IsPermutation-sym, IsPermutation-trans, IsPermutation-cons, IsPermutation-append_left, length_permutation, Retain, Extend, Drain, Done, ExtendRefused, Taken, Pops, PopsInTurn, IsJoined}
 use Rattle.dary_heap.specs.Bag.{HasGreater}
 use Rattle.dary_heap.proofs.Bags.{Contains-first, IsGreatest-overtaken, IsGreatest-stays}
 use Rattle.dary_heap.proofs.Fronts.{alone}
@@ -22,9 +22,8 @@ IsState-front {cmp = cmp} new m is h = record { greatest = λ f e. let same : m 
 
 module _ {X : Type 0} {cmp : X → X → Ordering} (total : IsTotalOrder cmp) where
   by_test : (old : List X) (x f : X) → IsGreatest cmp old f → (r : Ordering) → cmp x f ≡ r → IsGreatest cmp (x ∷ old) (if is_gt r then x else f)
-  by_test old x f h Less e = IsGreatest-stays x f old h (λ over. cc)
-  by_test old x f h Equal e = IsGreatest-stays x f old h (λ over. cc)
   by_test old x f h Greater e = IsGreatest-overtaken total x f old h (λ over. let under = total.antisymm f x ∙ ap ordering_reverse e in cc)
+  by_test old x f h r e = IsGreatest-stays x f old h (λ over. cc)
 
   -- the front with x is a greatest value of the bag with x
   pub front_with-greatest : (old : List X) (x : X) → IsState cmp old → IsGreatest cmp (x ∷ old) (front_with cmp x (front old))

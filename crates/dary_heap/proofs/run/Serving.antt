@@ -1,6 +1,5 @@
 -- What one command makes of a heap, from the contract of the call that carries it out.
-use Rattle.dary_heap.proofs.Common.{◌≡◌, ℕ, ◌≤◌, ◌↔◌, Bool, List, [], ◌∷◌, ◌++◌, length, IsPermutation, Contains, refl, subst, arith, Option, Some, None, IfSome, IfNone, slice_get, sym, inl, inr, true, false, IsTotalOrder, Mut, Called, CalledAt, TakesAt, Contains-append_left, slice_get_within, get_or_from_slice_get, length_permutation, Ordering, IsCallableOn, RisesWithin, pop_bound, charge, Contents, IsHeapOrdered, Command, Reply, Pop, Ask, Popped, Asked, Step, IsServed, Serves, room, sure_after, front, suc, ◌-◌, if◌then◌else◌, min, ap, ◌∙◌, length-append, append-nil, mul-le-mul_right, Contains-append_right, IsPermutation-sym, Contains-permutation, Bor, Yields, into_iter_items, items_where_true, IsSameBag, IsGreatest, mend_bound, IsExtended, first_no, depth, PopIf, Retain, Extend, Append, Done, IsJoined, nat_tests}
-use Rattle.std.proofs.Common.{Bor}
+use Rattle.dary_heap.proofs.Common.{◌≡◌, ℕ, ◌≤◌, ◌↔◌, Bool, List, [], ◌∷◌, ◌++◌, length, IsPermutation, Contains, refl, subst, arith, Option, Some, None, IfSome, IfNone, slice_get, sym, inl, inr, true, false, IsTotalOrder, Mut, Called, CalledAt, TakesAt, Contains-append_left, slice_get_within, get_or_from_slice_get, length_permutation, Ordering, IsCallableOn, RisesWithin, pop_bound, charge, Contents, IsHeapOrdered, Command, Reply, Pop, Ask, Popped, Asked, Step, IsServed, Serves, room, sure_after, front, suc, ◌-◌, if◌then◌else◌, min, ap, ◌∙◌, length-append, append-nil, mul-le-mul_right, Contains-append_right, IsPermutation-sym, Contains-permutation, Bor, Yields, into_iter_items, items_where_true, IsSameBag, IsGreatest, mend_bound, IsExtended, first_no, depth, PopIf, Retain, Extend, Append, Done, IsJoined, nat_tests, ◌≢◌, le_refl, zero-le, true≢false, IsSameState}
 use Rattle.dary_heap.proofs.Bags.{IsAmong, IsAmong-same, IsAmong-tail, front_cases, holds_none, IsAmong-append}
 use Rattle.dary_heap.proofs.Fronts.{alone, ordered_state, same_state}
 use Rattle.dary_heap.proofs.iter.Popping.{none_first}
@@ -10,22 +9,33 @@ use Rattle.std.specs.Vec.Iter.{into_iter_steps}
 use Rattle.std.specs.declared.vec.IntoIter.{IntoIter}
 use Rattle.dary_heap.specs.Filtering.{IsRetained}
 use Rattle.dary_heap.proofs.heap.Filtering.{few_picked}
+use Rattle.dary_heap.proofs.sift.Written.{none_counted}
 
 -- the items of a bag from which m was taken
 pub rest_among : {X : Type 0} (xs ys : List X) (m : X) → IsPermutation xs (m ∷ ys) → IsAmong (xs ++ []) ys
 rest_among xs ys m h = IsAmong-tail _ m ys (IsAmong-same _ xs (m ∷ ys) h (Contains-append_left xs []))
 
+-- what a drain is told that found no room for the items that it was to return
+pub refused : {X : Type 0} (old : List X) (count len wanted : ℕ) → len ≡ length old → wanted ≡ min count len → (wanted ≡ 0 → false ≡ true) → (old ≢ []) × (count ≢ 0) × IsSameState old old
+refused old count len wanted is least failed =
+    let some = λ (none : wanted ≡ 0). true≢false (sym (failed none)) in
+    ((λ e. some (omega (arith, ap length e))), (λ e. some (omega arith)), same_state _ _ refl)
+
 module _ {X P : Type 0} {cmp : X → X → Ordering} {calls : P → X → Bool → P → Type 0} {D : ℕ} where
-  -- a step that leaves all as it was
-  pub serves_same : {old new : Contents X} {command : Command X P} {reply : Reply X} → new ≡ old → IsHeapOrdered cmp D new.items → Step cmp calls old.items command reply old.items → IsServed (room old) command reply → sure_after (room old) command reply ≤ room old → Serves cmp calls D old command reply new
-  serves_same {old} same ordered step served sure = rw same record {
-    step = step;
-    charged = record { rises = omega arith; within = omega arith };
+  -- a step that leaves the items as they were
+  pub serves_kept : {old new : Contents X} {command : Command X P} {reply : Reply X} → new.items ≡ old.items → new.comparisons ≡ old.comparisons → IsHeapOrdered cmp D new.items → Step cmp calls old.items command reply old.items → IsServed (room old) command reply → sure_after (room old) command reply ≤ room new → Serves cmp calls D old command reply new
+  serves_kept {old} same uncounted ordered step served sure = record {
+    step = rw same step;
+    charged = rw uncounted (none_counted _ _);
     served = served;
     sure = sure;
-    ordered = rw same at ordered;
-    among = Contains-append_left old.items _;
+    ordered = ordered;
+    among = rw same (Contains-append_left old.items _);
   }
+
+  -- a step that leaves all as it was
+  pub serves_same : {old new : Contents X} {command : Command X P} {reply : Reply X} → new ≡ old → IsHeapOrdered cmp D new.items → Step cmp calls old.items command reply old.items → IsServed (room old) command reply → sure_after (room old) command reply ≤ room old → Serves cmp calls D old command reply new
+  serves_same same ordered step served sure = serves_kept (ap (λ (it : Contents X). it.items) same) (ap (λ (it : Contents X). it.comparisons) same) ordered step served (rw same sure)
 
   -- a step that takes all items away
   pub serves_emptied : {old new : Contents X} {command : Command X P} {reply : Reply X} → new.items ≡ [] → Step cmp calls old.items command reply [] → RisesWithin old.comparisons new.comparisons (charge D (length old.items) command reply 0) → IsServed (room old) command reply → sure_after (room old) command reply ≤ 0 → Serves cmp calls D old command reply new
@@ -39,7 +49,7 @@ module _ {X P : Type 0} {cmp : X → X → Ordering} {calls : P → X → Bool �
   }
 
   pub pops : IsTotalOrder cmp → (old new : Contents X) (r : Option X) → r ≡ slice_get old.items 0 → IfSome r (λ m. IsPermutation old.items (m ∷ new.items)) → IsHeapOrdered cmp D new.items → RisesWithin old.comparisons new.comparisons (pop_bound D (length old.items)) → new.capacity ≡ old.capacity → IfNone r (new ≡ old) → Serves cmp calls D old Pop (Popped r) new
-  pops total old new None first bag ordered charged same unchanged = let none = none_first old.items first in serves_same unchanged ordered (none, none) tt (omega arith)
+  pops total old new None first bag ordered charged same unchanged = let none = none_first old.items first in serves_same unchanged ordered (none, none) tt (le_refl _)
   pops total old new (Some m) first bag ordered charged same none = record {
     step = (sym first, bag, ordered_state total D new.items ordered);
     charged = charged;
@@ -79,7 +89,7 @@ module _ {X P : Type 0} {cmp : X → X → Ordering} {calls : P → X → Bool �
         step = (old.items, kept, same_state _ _ refl, (h.answers, h.after, h.all, h.asked, refl), h.bag, ordered_state total D new.items ordered, λ all_kept. ap (λ (it : Contents X). front it.items) (h.unchanged (none_removed h.answers old.items h.all all_kept)));
         charged = record { rises = h.counted.rises; within = omega (arith, h.counted.within, mend_bound-fewer D n (n - first_no h.answers) n (omega arith)) };
         served = tt;
-        sure = omega arith;
+        sure = zero-le;
         ordered = ordered;
         among = λ x in'. Contains-append_left old.items [] x (Contains-picked h.answers old.items x (Contains-permutation new.items kept x (IsPermutation-sym kept new.items h.bag) in'));
       }
@@ -90,7 +100,7 @@ module _ {X P : Type 0} {cmp : X → X → Ordering} {calls : P → X → Bool �
     step = step (record { bag = h.bag; state = ordered_state total D new.items h.ordered; first = λ none. ap front (h.unchanged none) });
     charged = h.counted;
     served = tt;
-    sure = omega arith;
+    sure = zero-le;
     ordered = h.ordered;
     among = came_behind old.items xs all left new.items split h.bag;
   }
@@ -102,7 +112,7 @@ module _ {X P : Type 0} {cmp : X → X → Ordering} {calls : P → X → Bool �
         step = record { bag = bag; state = ordered_state total D new.items ordered; first = λ none. ap front (same_items none) };
         charged = subst (λ k. RisesWithin old.comparisons new.comparisons (mend_bound D (length new.items) (min (length old.items) k))) more counted;
         served = tt;
-        sure = omega arith;
+        sure = zero-le;
         ordered = ordered;
         among = came_behind old.items other other [] new.items (sym (append-nil other)) bag;
       }
@@ -130,15 +140,15 @@ module _ {X P : Type 0} (calls : Mut P (Bor X × Unit {0}) Bool) where
 
     pub asks : {cmp : X → X → Ordering} {D : ℕ} (heap : Contents X) (p : P) (answer : Option Bool) → (heap.items ≡ [] → answer ≡ None) → ((item : X) → slice_get heap.items 0 ≡ Some item → (given : Bool) × Told p item given × (answer ≡ Some given)) → IsHeapOrdered cmp D heap.items → Serves cmp (CalledAt calls) D heap (Ask p) (Asked answer) heap
     asks heap p answer none asked ordered = elim (front_cases heap.items) [
-      | inl gone ↦ rw (none gone) (serves_same refl ordered (gone, gone) tt (omega arith))
+      | inl gone ↦ rw (none gone) (serves_same refl ordered (gone, gone) tt (le_refl _))
       | inr first ↦
           let given = asked first.0 first.1 in
-          rw given.2 (serves_same refl ordered ((first.0, first.1, told p first.0 given.0 given.1), same_state _ _ refl) tt (omega arith))
+          rw given.2 (serves_same refl ordered ((first.0, first.1, told p first.0 given.0 given.1), same_state _ _ refl) tt (le_refl _))
     ]
 
     -- a pop that p decides
     answered : {cmp : X → X → Ordering} {D : ℕ} → IsTotalOrder cmp → (old new : Contents X) (p : P) (r : Option X) (f : X) (answer : Bool) → front old.items ≡ Some f → Told p f answer → r ≡ (if answer then Some f else None) → IfSome r (λ m. IsPermutation old.items (m ∷ new.items)) → IsHeapOrdered cmp D new.items → RisesWithin old.comparisons new.comparisons (pop_bound D (length old.items)) → new.capacity ≡ old.capacity → IfNone r (new ≡ old) → Serves cmp (CalledAt calls) D old (PopIf p) (Popped r) new
-    answered total old new p r f false first asked is bag ordered charged same unchanged = rw is (serves_same (rw is at unchanged) ordered (inr ((f, first, told p f false asked), same_state _ _ refl)) tt (omega arith))
+    answered total old new p r f false first asked is bag ordered charged same unchanged = rw is (serves_same (rw is at unchanged) ordered (inr ((f, first, told p f false asked), same_state _ _ refl)) tt (le_refl _))
     answered total old new p r f true first asked is bag ordered charged same unchanged =
         let whole : IsPermutation old.items (f ∷ new.items) = rw is at bag in
         rw is record {
@@ -152,7 +162,7 @@ module _ {X P : Type 0} (calls : Mut P (Bor X × Unit {0}) Bool) where
 
     pub pops_where : {cmp : X → X → Ordering} {D : ℕ} → IsTotalOrder cmp → (old new : Contents X) (p : P) (r : Option X) → ((item : X) → slice_get old.items 0 ≡ Some item → (answer : Bool) × Told p item answer × (r ≡ (if answer then Some item else None))) → IfSome r (IsGreatest cmp old.items) → IfSome r (λ m. IsPermutation old.items (m ∷ new.items)) → IsHeapOrdered cmp D new.items → RisesWithin old.comparisons new.comparisons (pop_bound D (length old.items)) → new.capacity ≡ old.capacity → IfNone r (new ≡ old) → Serves cmp (CalledAt calls) D old (PopIf p) (Popped r) new
     pops_where total old new p None asked greatest bag ordered charged same unchanged = elim (front_cases old.items) [
-      | inl none ↦ serves_same unchanged ordered (inl (none, none)) tt (omega arith)
+      | inl none ↦ serves_same unchanged ordered (inl (none, none)) tt (le_refl _)
       | inr first ↦ let a = asked first.0 first.1 in answered total old new p None first.0 a.0 first.1 a.1 a.2 bag ordered charged same unchanged
     ]
     pops_where total old new p (Some m) asked greatest bag ordered charged same unchanged =

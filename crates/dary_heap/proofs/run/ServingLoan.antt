@@ -1,5 +1,5 @@
 -- What a loan makes of a heap, from the contracts of its calls.
-use Rattle.dary_heap.proofs.Common.{◌≡◌, ◌↔◌, ℕ, ◌+◌, ◌-◌, ◌*◌, ◌<◌, ◌≤◌, Bool, true, false, List, [], ◌∷◌, ◌++◌, length, refl, sym, ap, ◌∙◌, subst, arith, Option, Some, None, IsTrue, slice_set, Contains, Contains-append_left, Contains-append_right, IsPermutation-refl, IsPermutation-sym, IsPermutation-trans, IsPermutation-cons, length_permutation, OnFalse, IsTotalOrder, Ordering, written, IsSameBag, IsGreatest-same_bag, RisesWithin, refreshes, pop_bound, sink_bound, Contents, IsHeapOrdered, IsExceeded, Act, Write, Refresh, End, PutBack, TakeOut, Seen, Old, Changed, Loan, Loaned, Acts, Ends, Serves, IsState, front, length-set}
+use Rattle.dary_heap.proofs.Common.{◌≡◌, ◌↔◌, ℕ, ◌+◌, ◌-◌, ◌*◌, ◌<◌, ◌≤◌, Bool, true, false, List, [], ◌∷◌, ◌++◌, length, refl, sym, ap, ◌∙◌, subst, arith, Option, Some, None, IsTrue, slice_set, Contains, Contains-append_left, Contains-append_right, IsPermutation-refl, IsPermutation-sym, IsPermutation-trans, IsPermutation-cons, length_permutation, OnFalse, IsTotalOrder, Ordering, written, IsSameBag, IsGreatest-same_bag, RisesWithin, refreshes, pop_bound, sink_bound, Contents, IsHeapOrdered, IsExceeded, Act, Write, Refresh, End, PutBack, TakeOut, Seen, Old, Changed, Loan, Loaned, Acts, Ends, Serves, IsState, front, length-set, zero-le}
 use Rattle.dary_heap.proofs.Bags.{Contains-first, IsAmong, IsAmong-cons, IsAmong-tail, IsAmong-same}
 use Rattle.dary_heap.proofs.Cancelling.{IsPermutation-uncons}
 use Rattle.dary_heap.proofs.Depth.{times_depth-later}
@@ -114,7 +114,7 @@ module _ {X P : Type 0} {cmp : X → X → Ordering} {calls : P → X → Bool �
       step = (h.first, h.rest, h.last, h.left, ap front h.from, rw (← h.from) (IsPermutation-refl old.items), h.acted, ends);
       charged = record { rises = omega (arith, h.counted.rises, counted.rises); within = omega (arith, h.counted.within, counted.within, few, ap (sink_bound D) h.len) };
       served = tt;
-      sure = omega arith;
+      sure = zero-le;
       ordered = ordered;
       among = λ x in'. brought h x (among x in');
     }

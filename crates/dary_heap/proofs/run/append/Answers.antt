@@ -1,4 +1,4 @@
-use Rattle.dary_heap.proofs.Common.{ap, refl, arith, Contents}
+use Rattle.dary_heap.proofs.Common.{ap, refl, zero-le, Contents}
 use Rattle.dary_heap.proofs.Fronts.{same_state}
 use Rattle.dary_heap.proofs.run.Serving.{serves_same, appended}
 use Rattle.dary_heap.proofs.run.append.Goals as goal
@@ -9,4 +9,4 @@ returns-in-Ok g c = let e = c.in-Ok.ensures in appended g.met.T.Ord.total _ _ _ 
 pub returns-in-Err : goal.returns-in-Err
 returns-in-Err g c =
     let e = c.in-Err.ensures in
-    serves_same e.unchanged e.ordered (same_state _ _ (ap (λ (it : Contents g.row.T.Denot). it.items) e.other_unchanged), same_state _ _ refl) tt (omega arith)
+    serves_same e.unchanged e.ordered (same_state _ _ (ap (λ (it : Contents g.row.T.Denot). it.items) e.other_unchanged), same_state _ _ refl) tt zero-le

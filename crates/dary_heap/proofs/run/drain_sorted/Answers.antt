@@ -1,8 +1,8 @@
-use Rattle.dary_heap.proofs.Common.{rules, ◌≡◌, length, min, refl, sym, ap, arith, nil_from_length, Contents, drained_heap, ℕ, zero, suc, ◌+◌, ◌<◌, ◌≤◌, Bool, List, [], ◌∷◌, ◌∙◌, Option, Some, None, IsSome, IsTotalOrder, Ordering, Yields, RisesWithin, pops_bound, Command, Reply, PopsInTurn, IsPop, Serves}
+use Rattle.dary_heap.proofs.Common.{rules, ◌≡◌, length, min, refl, sym, ap, arith, is_some, nil_from_length, zero-le, Contents, drained_heap, ℕ, zero, suc, ◌+◌, ◌<◌, ◌≤◌, Bool, List, [], ◌∷◌, ◌∙◌, IsTotalOrder, Ordering, Yields, RisesWithin, pops_bound, Command, Reply, PopsInTurn, Serves}
 use Rattle.std.proofs.iter.Next.{Yields-more}
 use Rattle.dary_heap.specs.DrainSorted.{DrainsSorted}
-use Rattle.dary_heap.proofs.Fronts.{same_state, ordered_state}
-use Rattle.dary_heap.proofs.run.Serving.{serves_emptied, serves_same}
+use Rattle.dary_heap.proofs.Fronts.{ordered_state}
+use Rattle.dary_heap.proofs.run.Serving.{refused, serves_emptied, serves_same}
 use Rattle.dary_heap.proofs.iter.Popping.{keeps_heap_along, pops_bound_step}
 use Rattle.dary_heap.specs.declared.iter.drain_sorted.DrainSorted.{DrainSorted}
 use Rattle.dary_heap.proofs.Order.{read}
@@ -31,34 +31,32 @@ module _ {X : Type 0} (cmp : X → X → Ordering) {D : ℕ} where
         omega (arith, h.2, pop.counted.rises),
       )
 
--- where there is an item a pop gives one
-popped_some : {X : Type 0} {cmp : X → X → Ordering} {D : ℕ} (old new : Contents X) (r : Option X) → IsPop cmp D old r new → 0 < length old.items → IsSome r
-popped_some old new None pop some = let first = read old.items 0 some in let none : None ≡ Some first.0 = pop.first ∙ first.1 in cc
-popped_some old new (Some x) pop some = refl
-
 -- what an iterator leaves behind its reference is what the heap is then
 serves_behind : {X P : Type 0} {cmp : X → X → Ordering} {calls : P → X → Bool → P → Type 0} {D : ℕ} {old new : Contents X} {command : Command X P} {reply : Reply X} (end : Contents X) → new ≡ end → Serves cmp calls D old command reply end → Serves cmp calls D old command reply new
 serves_behind end same serves = rw same serves
 
 pub returns-in_default : goal.returns-in_default
-returns-in_default g c =
-    let failed : c.min-count.result ≡ 0 → ⊥ = λ none. (let succeeds = c.in_default.ensures.succeeds none in cc) in
-    serves_same refl c.len.ensures.ordered ((λ none. failed (omega (arith, c.min-count.ensures, c.len.ensures.len, ap length none))), (λ none. failed (omega (arith, c.min-count.ensures, none))), same_state _ _ refl) tt (omega arith)
+returns-in_default g c = serves_same refl c.len.ensures.ordered (refused _ c.args.count _ _ c.len.ensures.len c.min-count.ensures c.in_default.ensures.succeeds) tt zero-le
 
 pub unwrap-requires : goal.unwrap-requires
 unwrap-requires g c =
     let before = c.loop.invariant in
     let begun = ap (λ (it : Contents g.row.T.Denot). length it.items) c.drain_sorted-items.ensures.heap in
-    popped_some (drained_heap c.loop.items) (drained_heap c.next.new.self) c.next.result c.next.ensures.steps.0 (omega (arith, c.loop-test.true, c.min-count.ensures, c.len.ensures.len, begun, (drained_counts g.T.Ord.cmp _ _ _ before.given).0, before.long))
+    let counts = drained_counts g.T.Ord.cmp _ _ _ before.given in
+    let first = read (drained_heap c.loop.items).items 0 (omega (arith, c.loop-test.true, c.min-count.ensures, c.len.ensures.len, begun, counts.0, c.loop.taken.ok.0, before.long)) in
+    ap is_some (c.next.ensures.steps.0.first ∙ first.1)
+
+pub push_reserved-requires : goal.push_reserved-requires
+push_reserved-requires g c = omega (arith, c.loop-test.true, c.loop.invariant.long, c.loop.invariant.space)
 
 pub loop-preserved : goal.loop-preserved
 loop-preserved g c =
     let before = c.loop.invariant in
     record {
       given = rw c.push_reserved.ensures.items (Yields-more (DrainsSorted g.T.Ord.cmp) _ _ c.loop.items c.unwrap.result _ before.given (rw c.unwrap.ensures at c.next.ensures.steps));
-      long = omega arith;
-      within = omega arith;
-      space = omega arith;
+      long = omega (arith, c.push_reserved.ensures.len, before.long);
+      within = omega (arith, c.loop-test.true);
+      space = omega (arith, c.push_reserved.ensures.capacity, before.space);
     }
 
 pub returns : goal.returns
@@ -70,6 +68,6 @@ returns g c =
     let last = c.drop-items.ensures.counted in
     let same = keeps_heap_along g.T.Ord.cmp c.drain_sorted-items.result _ _ before.given in
     let items : length c.args.heap.now.items ≡ length old.items = ap (λ (it : Contents g.row.T.Denot). length it.items) (sym begun) in
-    let long : length c.loop.taken.items ≡ min c.args.count (length old.items) = omega (arith, c.min-count.ensures, c.len.ensures.len, items, before.long, before.within, c.loop-test.false) in
+    let long : length c.loop.taken.items ≡ min c.args.count (length old.items) = omega (arith, c.min-count.ensures, c.len.ensures.len, items, c.loop.taken.ok.0, before.long, before.within, c.loop-test.false) in
     let in_turn = drained_in_turn g.T.Ord.cmp g.met.T.Ord.total c.args.count _ c.loop.taken.items _ before.given (omega (arith, long)) (λ fewer. nil_from_length _ (omega (arith, long, counts.0))) in
-    rw (← begun) (serves_behind c.drop-items.new.self.0 (search (rules, same)) (serves_emptied c.drop-items.ensures.items (in_turn, refl) (record { rises = omega (arith, counts.2, last.rises); within = omega (arith, counts.1.within, last.within) }) tt (omega arith)))
+    rw (← begun) (serves_behind c.drop-items.new.self.0 (search (rules, same)) (serves_emptied c.drop-items.ensures.items (in_turn, refl) (record { rises = omega (arith, counts.2, last.rises); within = omega (arith, counts.1.within, last.within) }) tt zero-le))

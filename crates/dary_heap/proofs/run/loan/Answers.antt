@@ -1,4 +1,4 @@
-use Rattle.dary_heap.proofs.Common.{rules, ◌≡◌, ◌++◌, ◌∷◌, [], length, refl, sym, ap, ◌∙◌, arith, append_assoc, append-nil, length-append, slice_set, map-append, length-map, nil_from_length, into_iter_items, eqb-true, loaned}
+use Rattle.dary_heap.proofs.Common.{rules, ◌≡◌, ◌++◌, ◌∷◌, [], length, refl, sym, ap, ◌∙◌, arith, append_assoc, append-nil, length-append, slice_set, map-append, length-map, nil_from_length, into_iter_items, eqb-false, eqb-true, loaned, pos_of_ne-zero, true≢false, zero-le}
 use Rattle.dary_heap.specs.Reading as read
 use Rattle.dary_heap.proofs.Fronts.{same_state}
 use Rattle.dary_heap.proofs.run.Serving.{serves_same}
@@ -10,24 +10,29 @@ use Rattle.dary_heap.proofs.run.loan.Goals.{Joined-end, in-Write, in-Refresh, in
 pub returns-then-is_empty : goal.returns-then-is_empty
 returns-then-is_empty g c =
     let none = nil_from_length c.args.heap.now.items (eqb-true _ 0 (sym c.if-is_empty.ensures.empty)) in
-    serves_same refl c.if-is_empty.ensures.ordered (none, none) tt (omega arith)
+    serves_same refl c.if-is_empty.ensures.ordered (none, none) tt zero-le
 
 pub returns-in_default : goal.returns-in_default
 returns-in_default g c =
-    let some : length c.args.heap.now.items ≡ 0 → ⊥ = search rules in
-    let failed : c.len.result ≡ 0 → ⊥ = λ none. (let succeeds = c.in_default.ensures.succeeds none in cc) in
-    serves_same refl c.if-is_empty.ensures.ordered ((λ none. some (ap length none)), (λ none. failed (omega (arith, c.len.ensures, length-map c.args.acts.items read.act, ap length none))), same_state _ _ refl) tt (omega arith)
+    let some = eqb-false _ 0 (sym c.if-is_empty.ensures.empty) in
+    let failed = λ (none : c.len.result ≡ 0). true≢false (sym (c.in_default.ensures.succeeds none)) in
+    serves_same refl c.if-is_empty.ensures.ordered ((λ none. some (ap length none)), (λ none. failed (c.len.ensures ∙ c.args.acts.ok.0 ∙ sym (length-map c.args.acts.items read.act) ∙ ap length none)), same_state _ _ refl) tt zero-le
+
+pub unwrap-loan-requires : goal.unwrap-loan-requires
+unwrap-loan-requires g c = c.peek_mut.ensures.variant.1 (pos_of_ne-zero (eqb-false _ 0 (sym c.if-is_empty.ensures.empty)))
 
 pub loop-act-init : goal.loop-act-init
 loop-act-init g c =
     let gives = c.into_iter-act-iterator.ensures.into_iter_gives in
     record {
       split = sym gives.0;
-      left = omega (arith, ap length gives.0, gives.1);
       space = omega (arith, ap length c.in-Ok.ensures.items, gives.1, c.len.ensures, c.in-Ok.ensures.capacity);
       held = rw c.in-Ok.ensures.items (IsHeld-begins (loaned c.unwrap-loan.result) c.unwrap-loan.result.lent.some);
       same_reference = refl;
     }
+
+pub push_reserved-requires : goal.push_reserved-requires
+push_reserved-requires g c = omega (arith, c.loop-act.invariant.space, c.in-Some.ensures.steps.1, c.loop-act.seen.ok.0)
 
 pub loop-act-preserved : goal.loop-act-preserved
 loop-act-preserved g c =
@@ -39,7 +44,6 @@ loop-act-preserved g c =
     let shown = c.match-act.push_reserved in
     record {
       split = before.split ∙ ap (λ xs. yielded ++ xs) steps.0 ∙ sym (append_assoc yielded (act ∷ []) (into_iter_items c.next.new.self));
-      left = omega (arith, ap length steps.0, steps.1, before.left);
       space = omega (arith, ap length c.push_reserved.ensures.items, length-append seen (shown ∷ []), c.push_reserved.ensures.capacity, steps.1, before.space);
       held = rw (c.push_reserved.ensures.items, map-append read.act yielded (act ∷ []), map-append read.sight seen (shown ∷ [])) (elim c.match-act.branch [
         | in-Write w ↦ rw (w.in-Write.is, w.push_reserved-is, w.replace.ensures.value, w.loan-is) (IsHeld-write before.held _ w.in-Write.item w.deref_mut.result.now w.deref_mut.ensures.first (ap (slice_set (loaned c.loop-act.loan).items 0) w.replace.ensures.after) refl)
@@ -56,7 +60,7 @@ held : (g : Over) (c : Joined-end g) → IsHeld g.T.Ord.cmp g.row.D c.args.heap.
 held g c =
     let before = c.loop-act.invariant in
     let begun : loaned c.unwrap-loan.result ≡ c.args.heap.now = rw c.unwrap-loan.ensures at c.peek_mut.ensures.loaned in
-    let rest : into_iter_items c.loop-act.act-iterator ≡ [] = nil_from_length _ (omega (arith, c.in-None.ensures.steps.0, before.left)) in
+    let rest : into_iter_items c.loop-act.act-iterator ≡ [] = nil_from_length _ (sym c.loop-act.act-iterator.rest.ok.0 ∙ c.in-None.ensures.steps.0) in
     let all : c.args.acts.items ≡ c.loop-act.yielded = before.split ∙ ap (λ xs. c.loop-act.yielded ++ xs) rest ∙ append-nil c.loop-act.yielded in
     rw (← begun, all) before.held
 

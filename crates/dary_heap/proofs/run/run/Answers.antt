@@ -13,7 +13,6 @@ loop-command-init g c =
     let gives = c.into_iter-command-iterator.ensures.into_iter_gives in
     record {
       split = sym gives.0;
-      left = omega (arith, ap length gives.0, gives.1);
       space = omega (arith, ap length c.in-Ok.ensures.items, gives.1, c.len-2.ensures, c.in-Ok.ensures.capacity);
       runs = rw c.in-Ok.ensures.items (Runs-begins c.args.heap.now (ordered_state g.met.T.Ord.total g.row.D c.args.heap.now.items c.len.ensures.ordered));
       among = λ x in'. Contains-append_left c.args.heap.now.items _ x in';
@@ -28,6 +27,9 @@ serve-requires g c =
     let seen = parted read.command all c.loop-command.yielded c.in-Some.command (into_iter_items c.next.new.self) is in
     (search rules, (search rules, (search rules, callable_one g.P.FnMut (c.args.heap.now.items ++ items_in (read.commands all)) c.loop-command.heap.items (read.commands c.loop-command.yielded) (read.command c.in-Some.command) (read.commands (into_iter_items c.next.new.self)) c.loop-command.invariant.among (subst (λ cs. All (IsCallableOn g.P.FnMut (c.args.heap.now.items ++ items_in (read.commands all))) (predicates_in cs)) seen c.requires))))
 
+pub push_reserved-requires : goal.push_reserved-requires
+push_reserved-requires g c = omega (arith, c.loop-command.invariant.space, c.in-Some.ensures.steps.1, c.loop-command.replies.ok.0)
+
 pub loop-command-preserved : goal.loop-command-preserved
 loop-command-preserved g c =
     let steps = c.in-Some.ensures.steps in
@@ -41,7 +43,6 @@ loop-command-preserved g c =
     let replies = c.loop-command.replies.items in
     record {
       split = is ∙ sym (append_assoc yielded (command ∷ []) rest);
-      left = omega (arith, ap length steps.0, steps.1, before.left);
       space = omega (arith, ap length c.push_reserved.ensures.items, length-append replies (c.serve.result ∷ []), c.push_reserved.ensures.capacity, steps.1, before.space);
       runs = rw (c.push_reserved.ensures.items, map-append read.command yielded (command ∷ []), map-append read.reply replies (c.serve.result ∷ [])) (Runs-more before.runs c.serve.ensures);
       among = λ x in'. elim (Contains-append_cases c.loop-command.heap.items _ x (c.serve.ensures.among x in')) [
@@ -54,6 +55,6 @@ loop-command-preserved g c =
 pub returns-clause-runs : goal.returns-clause-runs
 returns-clause-runs g c =
     let before = c.loop-command.invariant in
-    let rest : into_iter_items c.loop-command.command-iterator ≡ [] = nil_from_length _ (omega (arith, c.in-None.ensures.steps.0, before.left)) in
+    let rest : into_iter_items c.loop-command.command-iterator ≡ [] = nil_from_length _ (sym c.loop-command.command-iterator.rest.ok.0 ∙ c.in-None.ensures.steps.0) in
     let all : c.args.commands.items ≡ c.loop-command.yielded = before.split ∙ ap (λ xs. c.loop-command.yielded ++ xs) rest ∙ append-nil c.loop-command.yielded in
     rw all before.runs

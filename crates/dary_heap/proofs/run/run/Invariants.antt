@@ -5,7 +5,6 @@ use Rattle.dary_heap.proofs.run.run.Given as goal
 abbrev pub invariant-loop-command : goal.invariant-loop-command
 invariant-loop-command g l = record {
   split : l.fn.commands.items ≡ l.yielded ++ into_iter_items l.command-iterator;
-  left : length (into_iter_items l.command-iterator) ≡ into_iter_len l.command-iterator;
   space : length l.replies.items + into_iter_len l.command-iterator ≤ vec_capacity l.replies;
   runs : Runs g.T.Ord.cmp (CalledAt g.P.FnMut) g.row.D l.fn.heap (read.commands l.yielded) (read.replies l.replies.items) l.heap;
   among : (x : _) → Contains l.heap.items x → Contains (l.fn.heap.items ++ items_in (read.commands l.fn.commands.items)) x;

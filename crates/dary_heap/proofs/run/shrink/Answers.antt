@@ -1,0 +1,10 @@
+use Rattle.dary_heap.proofs.Common.{refl, zero-le}
+use Rattle.dary_heap.proofs.Fronts.{same_state}
+use Rattle.dary_heap.proofs.run.Serving.{serves_kept}
+use Rattle.dary_heap.proofs.run.shrink.Goals as goal
+
+pub returns-in-Ok : goal.returns-in-Ok
+returns-in-Ok g c = let e = c.shrink_to.ensures in serves_kept e.items e.uncounted e.ordered (same_state _ _ refl) tt zero-le
+
+pub returns-in-Err : goal.returns-in-Err
+returns-in-Err g c = let e = c.shrink_to.ensures in serves_kept e.items e.uncounted e.ordered (same_state _ _ refl) tt zero-le
