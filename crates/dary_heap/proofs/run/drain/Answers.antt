@@ -25,7 +25,6 @@ loop-preserved g c =
     record {
       parts = before.parts ∙ ap (λ xs. c.loop.taken.items ++ xs) was ∙ sym (append_assoc c.loop.taken.items (x ∷ []) (drain_rest c.next.new.self)) ∙ sym (ap (λ xs. xs ++ (drain_rest c.next.new.self)) c.push_reserved.ensures.items);
       long = omega (arith, c.push_reserved.ensures.len, before.long);
-      within = omega (arith, c.loop-test.true);
       space = omega (arith, c.push_reserved.ensures.capacity, before.space);
     }
 
@@ -33,6 +32,6 @@ pub returns : goal.returns
 returns g c =
     let before = c.loop.invariant in
     let m = min c.args.count (length c.args.heap.now.items) in
-    let long : length c.loop.taken.items ≡ m = omega (arith, c.min-count.ensures, c.len.ensures.len, c.loop.taken.ok.0, before.long, before.within, c.loop-test.false) in
+    let long : length c.loop.taken.items ≡ m = omega (arith, c.min-count.ensures, c.len.ensures.len, c.loop.taken.ok.0, before.long, c.loop.auto.counter-end, c.loop-test.false) in
     let taken = ap (λ xs. take m xs) (sym c.drain-rest.ensures.items ∙ before.parts) ∙ written_back m c.loop.taken.items (drain_rest c.loop.rest) long in
     serves_emptied refl ((c.args.heap.now.items, same_state _ _ refl, sym taken ∙ take_min c.args.count c.args.heap.now.items), refl) (none_counted _ _) tt zero-le

@@ -5,6 +5,5 @@ abbrev pub invariant-loop : goal.invariant-loop
 invariant-loop g l = record {
   parts : drain_rest l.initial.rest ≡ l.taken.items ++ drain_rest l.rest;
   long : vec_len l.taken ≡ l.counter;
-  within : l.counter ≤ l.count;
   space : l.count ≤ vec_capacity l.taken;
 }

@@ -1,4 +1,4 @@
-use Rattle.dary_heap.proofs.Common.{rules, ◌≡◌, length, min, refl, sym, ap, arith, is_some, nil_from_length, zero-le, Contents, drained_heap, ℕ, zero, suc, ◌+◌, ◌<◌, ◌≤◌, Bool, List, [], ◌∷◌, ◌∙◌, IsTotalOrder, Ordering, Yields, RisesWithin, pops_bound, Command, Reply, PopsInTurn, Serves}
+use Rattle.dary_heap.proofs.Common.{◌≡◌, length, min, refl, sym, ap, arith, is_some, nil_from_length, zero-le, Contents, drained_heap, ℕ, zero, suc, ◌+◌, ◌<◌, ◌≤◌, Bool, List, [], ◌∷◌, ◌∙◌, IsTotalOrder, Ordering, Yields, RisesWithin, pops_bound, Command, Reply, PopsInTurn, Serves}
 use Rattle.std.proofs.iter.Next.{Yields-more}
 use Rattle.dary_heap.specs.DrainSorted.{DrainsSorted}
 use Rattle.dary_heap.proofs.Fronts.{ordered_state}
@@ -55,7 +55,6 @@ loop-preserved g c =
     record {
       given = rw c.push_reserved.ensures.items (Yields-more (DrainsSorted g.T.Ord.cmp) _ _ c.loop.items c.unwrap.result _ before.given (rw c.unwrap.ensures at c.next.ensures.steps));
       long = omega (arith, c.push_reserved.ensures.len, before.long);
-      within = omega (arith, c.loop-test.true);
       space = omega (arith, c.push_reserved.ensures.capacity, before.space);
     }
 
@@ -68,6 +67,6 @@ returns g c =
     let last = c.drop-items.ensures.counted in
     let same = keeps_heap_along g.T.Ord.cmp c.drain_sorted-items.result _ _ before.given in
     let items : length c.args.heap.now.items ≡ length old.items = ap (λ (it : Contents g.row.T.Denot). length it.items) (sym begun) in
-    let long : length c.loop.taken.items ≡ min c.args.count (length old.items) = omega (arith, c.min-count.ensures, c.len.ensures.len, items, c.loop.taken.ok.0, before.long, before.within, c.loop-test.false) in
+    let long : length c.loop.taken.items ≡ min c.args.count (length old.items) = omega (arith, c.min-count.ensures, c.len.ensures.len, items, c.loop.taken.ok.0, before.long, c.loop.auto.counter-end, c.loop-test.false) in
     let in_turn = drained_in_turn g.T.Ord.cmp g.met.T.Ord.total c.args.count _ c.loop.taken.items _ before.given (omega (arith, long)) (λ fewer. nil_from_length _ (omega (arith, long, counts.0))) in
-    rw (← begun) (serves_behind c.drop-items.new.self.0 (search (rules, same)) (serves_emptied c.drop-items.ensures.items (in_turn, refl) (record { rises = omega (arith, counts.2, last.rises); within = omega (arith, counts.1.within, last.within) }) tt zero-le))
+    rw (← begun) (serves_behind c.drop-items.new.self.0 (search (arith, same)) (serves_emptied c.drop-items.ensures.items (in_turn, refl) (record { rises = omega (arith, counts.2, last.rises); within = omega (arith, counts.1.within, last.within) }) tt zero-le))

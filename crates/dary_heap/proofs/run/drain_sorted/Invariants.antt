@@ -6,6 +6,5 @@ abbrev pub invariant-loop : goal.invariant-loop
 invariant-loop g l = record {
   given : Yields (DrainsSorted g.T.Ord.cmp) l.initial.items l.taken.items l.items;
   long : vec_len l.taken ≡ l.counter;
-  within : l.counter ≤ l.count;
   space : l.count ≤ vec_capacity l.taken;
 }

@@ -5,15 +5,15 @@ use Rattle.dary_heap.proofs.run.serve.Goals as goal
 pub pop_if-requires : goal.pop_if-requires
 pop_if-requires g c =
     let callable = (rw c.in-PopIf.is at c.requires) 0 c.in-PopIf.predicate (omega arith) in
-    (search rules, callable_on_front g.P.FnMut c.args.heap.now.items c.in-PopIf.predicate callable)
+    (assumption, callable_on_front g.P.FnMut c.args.heap.now.items c.in-PopIf.predicate callable)
 
 pub ask-requires : goal.ask-requires
 ask-requires g c =
     let callable = (rw c.in-Ask.is at c.requires) 0 c.in-Ask.predicate (omega arith) in
-    (search rules, callable_on_front g.P.FnMut c.args.heap.now.items c.in-Ask.predicate callable)
+    (assumption, callable_on_front g.P.FnMut c.args.heap.now.items c.in-Ask.predicate callable)
 
 pub retain-requires : goal.retain-requires
-retain-requires g c = (search rules, (search rules, (rw c.in-Retain.is at c.requires) 0 c.in-Retain.predicate (omega arith)))
+retain-requires g c = (assumption, (assumption, (rw c.in-Retain.is at c.requires) 0 c.in-Retain.predicate (omega arith)))
 
 pub returns-in-PopIf : goal.returns-in-PopIf
 returns-in-PopIf g c =
@@ -60,3 +60,36 @@ returns-in-DrainSorted g c = rw c.in-DrainSorted.is (assumption c.drain_sorted.e
 
 pub returns-in-Loan : goal.returns-in-Loan
 returns-in-Loan g c = rw c.in-Loan.is (assumption c.loan.ensures)
+
+pub push-requires : goal.push-requires
+push-requires g c = assumption
+
+pub pop-requires : goal.pop-requires
+pop-requires g c = assumption
+
+pub len-requires : goal.len-requires
+len-requires g c = assumption
+
+pub extend-requires : goal.extend-requires
+extend-requires g c = assumption
+
+pub append-requires : goal.append-requires
+append-requires g c = assumption
+
+pub reserve-requires : goal.reserve-requires
+reserve-requires g c = assumption
+
+pub shrink-requires : goal.shrink-requires
+shrink-requires g c = assumption
+
+pub clear-requires : goal.clear-requires
+clear-requires g c = assumption
+
+pub drain-requires : goal.drain-requires
+drain-requires g c = assumption
+
+pub drain_sorted-requires : goal.drain_sorted-requires
+drain_sorted-requires g c = assumption
+
+pub loan-requires : goal.loan-requires
+loan-requires g c = assumption
