@@ -14,9 +14,6 @@ unwrap-requires g c =
     let before = c.loop.invariant in
     some_since c.next.result _ _ c.next.ensures.steps (λ none. omega (arith, c.loop-test.true, c.min-count.ensures, c.len.ensures.len, ap length c.drain-rest.ensures.items, ap length before.parts, length-append c.loop.taken.items (drain_rest c.loop.rest), c.loop.taken.ok.0, before.long, ap length none.0))
 
-pub push_reserved-requires : goal.push_reserved-requires
-push_reserved-requires g c = omega (arith, c.loop-test.true, c.loop.invariant.long, c.loop.invariant.space)
-
 pub loop-preserved : goal.loop-preserved
 loop-preserved g c =
     let before = c.loop.invariant in

@@ -46,9 +46,6 @@ unwrap-requires g c =
     let first = read (drained_heap c.loop.items).items 0 (omega (arith, c.loop-test.true, c.min-count.ensures, c.len.ensures.len, begun, counts.0, c.loop.taken.ok.0, before.long)) in
     ap is_some (c.next.ensures.steps.0.first ∙ first.1)
 
-pub push_reserved-requires : goal.push_reserved-requires
-push_reserved-requires g c = omega (arith, c.loop-test.true, c.loop.invariant.long, c.loop.invariant.space)
-
 pub loop-preserved : goal.loop-preserved
 loop-preserved g c =
     let before = c.loop.invariant in

@@ -31,9 +31,6 @@ loop-act-init g c =
       same_reference = refl;
     }
 
-pub push_reserved-requires : goal.push_reserved-requires
-push_reserved-requires g c = omega (arith, c.loop-act.invariant.space, c.in-Some.ensures.steps.1, c.loop-act.seen.ok.0)
-
 pub loop-act-preserved : goal.loop-act-preserved
 loop-act-preserved g c =
     let before = c.loop-act.invariant in

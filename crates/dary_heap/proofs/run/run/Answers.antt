@@ -27,9 +27,6 @@ serve-requires g c =
     let seen = parted read.command all c.loop-command.yielded c.in-Some.command (into_iter_items c.next.new.self) is in
     (assumption, (assumption, (assumption, callable_one g.P.FnMut (c.args.heap.now.items ++ items_in (read.commands all)) c.loop-command.heap.items (read.commands c.loop-command.yielded) (read.command c.in-Some.command) (read.commands (into_iter_items c.next.new.self)) c.loop-command.invariant.among (subst (λ cs. All (IsCallableOn g.P.FnMut (c.args.heap.now.items ++ items_in (read.commands all))) (predicates_in cs)) seen c.requires))))
 
-pub push_reserved-requires : goal.push_reserved-requires
-push_reserved-requires g c = omega (arith, c.loop-command.invariant.space, c.in-Some.ensures.steps.1, c.loop-command.replies.ok.0)
-
 pub loop-command-preserved : goal.loop-command-preserved
 loop-command-preserved g c =
     let steps = c.in-Some.ensures.steps in
@@ -58,12 +55,3 @@ returns-clause-runs g c =
     let rest : into_iter_items c.loop-command.command-iterator ≡ [] = nil_from_length _ (sym c.loop-command.command-iterator.rest.ok.0 ∙ c.in-None.ensures.steps.0) in
     let all : c.args.commands.items ≡ c.loop-command.yielded = before.split ∙ ap (λ xs. c.loop-command.yielded ++ xs) rest ∙ append-nil c.loop-command.yielded in
     rw all before.runs
-
-pub capacity-requires : goal.capacity-requires
-capacity-requires g c = assumption
-
-pub len-requires : goal.len-requires
-len-requires g c = assumption
-
-pub next-requires : goal.next-requires
-next-requires g c = assumption
