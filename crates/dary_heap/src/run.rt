@@ -221,13 +221,16 @@ fn serve<T: Ord + Drop, const D: usize, P: FnMut(&T) -> bool>(
         Command::Pop => pop(heap),
         Command::PopIf(predicate) => Reply::Popped(heap.pop_if(predicate)),
         Command::Ask(predicate) => Reply::Asked(ask(heap, predicate)),
-        Command::Len => len(heap),
+        Command::Len => Reply::Len(heap.len()),
         Command::Retain(predicate) => retain(heap, predicate),
         Command::Extend(items) => extend(heap, items),
         Command::Append(other) => append(heap, other),
         Command::Reserve(additional) => reserve(heap, additional),
         Command::Shrink(capacity) => shrink(heap, capacity),
-        Command::Clear => clear(heap),
+        Command::Clear => {
+            heap.clear();
+            Reply::Done
+        }
         Command::Drain(count) => drain(alloc, heap, count),
         Command::DrainSorted(count) => drain_sorted(alloc, heap, count),
         Command::Loan(acts, end) => loan(alloc, heap, acts, end),
@@ -263,12 +266,6 @@ fn ask<T: Ord, const D: usize, F: FnOnce(&T) -> bool>(
     ensures ordered { IsHeapOrdered T.cmp D heap.now.items }
 {
     Some(predicate(heap.peek()?))
-}
-
-fn len<T: Ord, const D: usize>(heap: &DaryHeap<T, D>) -> Reply<T, D>
-    ensures { ServesPlain T.cmp D heap.now machine.Len (read.reply result) heap.now }
-{
-    Reply::Len(heap.len())
 }
 
 fn retain<T: Ord + Drop, const D: usize, P: FnMut(&T) -> bool>(
@@ -323,13 +320,6 @@ fn shrink<T: Ord, const D: usize>(heap: &mut DaryHeap<T, D>, capacity: usize) ->
         Ok(()) => Reply::Done,
         Err(_) => Reply::Refused,
     }
-}
-
-fn clear<T: Ord + Drop, const D: usize>(heap: &mut DaryHeap<T, D>) -> Reply<T, D>
-    ensures { ServesPlain T.cmp D heap.old machine.Clear (read.reply result) heap.new }
-{
-    heap.clear();
-    Reply::Done
 }
 
 fn drain<T: Ord + Drop, const D: usize>(

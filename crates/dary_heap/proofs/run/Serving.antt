@@ -1,12 +1,10 @@
 -- What one command makes of a heap, from the contract of the call that carries it out.
-use Rattle.dary_heap.proofs.Common.{◌≡◌, ℕ, ◌≤◌, ◌↔◌, Bool, List, [], ◌∷◌, ◌++◌, length, IsPermutation, Contains, refl, subst, arith, Option, Some, None, IfSome, IfNone, slice_get, sym, inl, inr, true, false, IsTotalOrder, Mut, Called, CalledAt, TakesAt, Contains-append_left, slice_get_within, get_or_from_slice_get, length_permutation, Ordering, IsCallableOn, RisesWithin, pop_bound, charge, Contents, IsHeapOrdered, Command, Reply, Pop, Ask, Popped, Asked, Step, IsServed, Serves, room, sure_after, front, suc, ◌-◌, if◌then◌else◌, min, ap, ◌∙◌, length-append, append-nil, mul-le-mul_right, Contains-append_right, IsPermutation-sym, Contains-permutation, Bor, Yields, into_iter_items, items_where_true, IsSameBag, IsGreatest, mend_bound, IsExtended, first_no, depth, PopIf, Retain, Extend, Append, Done, IsJoined, nat_tests, ◌≢◌, le_refl, zero-le, true≢false, IsSameState}
+use Rattle.dary_heap.proofs.Common.{◌≡◌, ℕ, ◌≤◌, ◌↔◌, Bool, List, [], ◌∷◌, ◌++◌, length, IsPermutation, Contains, refl, subst, arith, Option, Some, None, IfSome, IfNone, slice_get, sym, inl, inr, true, false, IsTotalOrder, Mut, Called, CalledAt, TakesAt, Contains-append_left, slice_get_within, get_or_from_slice_get, length_permutation, Ordering, IsCallableOn, RisesWithin, pop_bound, charge, Contents, IsHeapOrdered, Command, Reply, Pop, Ask, Popped, Asked, Step, IsServed, Serves, room, sure_after, front, suc, ◌-◌, if◌then◌else◌, min, ap, ◌∙◌, length-append, append-nil, mul-le-mul_right, Contains-append_right, IsPermutation-sym, Contains-permutation, Bor, items_where_true, IsSameBag, IsGreatest, mend_bound, IsExtended, first_no, depth, PopIf, Retain, Extend, Append, Done, IsJoined, nat_tests, ◌≢◌, le_refl, zero-le, true≢false, IsSameState}
 use Rattle.dary_heap.proofs.Bags.{IsAmong, IsAmong-same, IsAmong-tail, front_cases, holds_none, IsAmong-append}
 use Rattle.dary_heap.proofs.Fronts.{alone, ordered_state, same_state}
 use Rattle.dary_heap.proofs.iter.Popping.{none_first}
 use Rattle.dary_heap.proofs.Order.{none_ordered, read}
 use Rattle.std.proofs.lemmas.Grind.{get_or_picked}
-use Rattle.std.specs.Vec.Iter.{into_iter_steps}
-use Rattle.std.specs.declared.vec.IntoIter.{IntoIter}
 use Rattle.dary_heap.specs.Filtering.{IsRetained}
 use Rattle.dary_heap.proofs.heap.Filtering.{few_picked}
 use Rattle.dary_heap.proofs.sift.Written.{none_counted}
@@ -63,10 +61,6 @@ module _ {X P : Type 0} {cmp : X → X → Ordering} {calls : P → X → Bool �
 mend_bound-fewer : (D n j k : ℕ) → j ≤ k → mend_bound D n j ≤ mend_bound D n k
 mend_bound-fewer D n j k h = let less = mul-le-mul_right (depth D (n - 1)) h in grind (arith, nat_tests)
 
--- what was picked was there
-Contains-picked : {X : Type 0} (bs : List Bool) (xs : List X) (x : X) → Contains (items_where_true bs xs) x → Contains xs x
-Contains-picked bs xs x in' = let from = (get_or_picked bs xs in'.0 x in'.1).1 in (from.0, from.1, sym from.2 ∙ in'.2)
-
 -- items that come in behind others, all of them or a beginning
 came_behind : {X : Type 0} (xs ys all left new : List X) → all ≡ ys ++ left → IsSameBag (xs ++ ys) new → IsAmong (xs ++ (all ++ [])) new
 came_behind {X} xs ys all left new split bag =
@@ -91,7 +85,10 @@ module _ {X P : Type 0} {cmp : X → X → Ordering} {calls : P → X → Bool �
         served = tt;
         sure = zero-le;
         ordered = ordered;
-        among = λ x in'. Contains-append_left old.items [] x (Contains-picked h.answers old.items x (Contains-permutation new.items kept x (IsPermutation-sym kept new.items h.bag) in'));
+        among = λ x in'.
+            let there = Contains-permutation new.items kept x (IsPermutation-sym kept new.items h.bag) in' in
+            let from = (get_or_picked h.answers old.items there.0 x there.1).1 in
+            Contains-append_left old.items [] x (from.0, from.1, sym from.2 ∙ there.2);
       }
 
   -- xs came in, which is the list or a beginning of it
@@ -116,11 +113,6 @@ module _ {X P : Type 0} {cmp : X → X → Ordering} {calls : P → X → Bool �
         ordered = ordered;
         among = came_behind old.items other other [] new.items (sym (append-nil other)) bag;
       }
-
--- first what a vector's iterator gave, then what it still has
-pub taken_front : {X A : Type 0} (s : IntoIter X A) (xs : List X) (t : IntoIter X A) → Yields into_iter_steps s xs t → into_iter_items s ≡ xs ++ into_iter_items t
-taken_front s [] t y = ap into_iter_items y
-taken_front s (x ∷ xs) t y = y.1.0 ∙ ap (λ ys. x ∷ ys) (taken_front y.0 xs t y.2)
 
 -- a predicate that is called once at most, on the front
 module _ {X P : Type 0} (calls : Mut P (Bor X × Unit {0}) Bool) where

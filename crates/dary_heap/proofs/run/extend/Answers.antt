@@ -1,6 +1,7 @@
-use Rattle.dary_heap.proofs.Common.{◌∷◌, [], ◌++◌, sym, ◌∙◌, arith, append-nil, append_assoc, map-id, into_iter_items}
-use Rattle.std.proofs.IntoIterSteps.{All-taken}
-use Rattle.dary_heap.proofs.run.Serving.{came_in, taken_front}
+use Rattle.dary_heap.proofs.Common.{◌∷◌, [], ◌++◌, sym, ◌∙◌, ap, arith, append-nil, append_assoc, map-id}
+use Rattle.core.proofs.iter.Yields.{gives_left}
+use Rattle.std.proofs.IntoIterSteps.{All-taken, taken, takes}
+use Rattle.dary_heap.proofs.run.Serving.{came_in}
 use Rattle.dary_heap.proofs.run.extend.Goals as goal
 
 pub returns-in-Ok : goal.returns-in-Ok
@@ -11,6 +12,6 @@ returns-in-Ok g c =
 pub returns-in-Err : goal.returns-in-Err
 returns-in-Err g c =
     let k = c.in-Err.ensures.refused in
-    let left = into_iter_items k.refused.left in
-    let split = sym k.begins.0 ∙ taken_front k.from (k.came ++ k.refused.refused ∷ []) k.refused.left k.refused.gave ∙ append_assoc k.came (k.refused.refused ∷ []) left in
-    came_in g.met.T.Ord.total _ _ _ k.came _ _ split (rw map-id at k.extended) (λ joined. (k.came, k.refused.refused ∷ left, split, omega arith, joined))
+    let left = gives_left takes (λ x. x) (k.came ++ k.refused.refused ∷ []) k.from.rest.items k.from k.refused.left (taken k.from) k.refused.gave in
+    let split = sym k.begins.0 ∙ left.1 ∙ ap (λ xs. xs ++ left.0) (map-id _) ∙ append_assoc k.came (k.refused.refused ∷ []) left.0 in
+    came_in g.met.T.Ord.total _ _ _ k.came _ _ split (rw map-id at k.extended) (λ joined. (k.came, k.refused.refused ∷ left.0, split, omega arith, joined))

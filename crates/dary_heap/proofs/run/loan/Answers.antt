@@ -18,9 +18,6 @@ returns-in_default g c =
     let failed = λ (none : c.len.result ≡ 0). true≢false (sym (c.in_default.ensures.succeeds none)) in
     serves_same refl c.if-is_empty.ensures.ordered ((λ none. some (ap length none)), (λ none. failed (c.len.ensures ∙ c.args.acts.ok.0 ∙ sym (length-map c.args.acts.items read.act) ∙ ap length none)), same_state _ _ refl) tt zero-le
 
-pub unwrap-loan-requires : goal.unwrap-loan-requires
-unwrap-loan-requires g c = c.peek_mut.ensures.variant.1 (pos_of_ne-zero (eqb-false _ 0 (sym c.if-is_empty.ensures.empty)))
-
 pub loop-act-init : goal.loop-act-init
 loop-act-init g c =
     let gives = c.into_iter-act-iterator.ensures.into_iter_gives in

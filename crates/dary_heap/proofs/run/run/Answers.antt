@@ -4,10 +4,6 @@ use Rattle.dary_heap.proofs.run.Runs.{callable_one, items_of_one, Runs-begins, R
 use Rattle.dary_heap.proofs.Fronts.{ordered_state}
 use Rattle.dary_heap.proofs.run.run.Goals as goal
 
--- what was read of a list of commands, where one of them stands
-parted : {A B : Type 0} (f : A → B) (all before : List A) (x : A) (after : List A) → all ≡ before ++ (x ∷ after) → map f all ≡ map f before ++ (f x ∷ map f after)
-parted f all before x after is = ap (map f) is ∙ map-append f before (x ∷ after)
-
 pub loop-command-init : goal.loop-command-init
 loop-command-init g c =
     let gives = c.into_iter-command-iterator.ensures.into_iter_gives in
@@ -24,7 +20,7 @@ serve-requires g c =
     let steps = c.in-Some.ensures.steps in
     let all = c.args.commands.items in
     let is : all ≡ c.loop-command.yielded ++ (c.in-Some.command ∷ into_iter_items c.next.new.self) = c.loop-command.invariant.split ∙ ap (λ xs. c.loop-command.yielded ++ xs) steps.0 in
-    let seen = parted read.command all c.loop-command.yielded c.in-Some.command (into_iter_items c.next.new.self) is in
+    let seen = ap (map read.command) is ∙ map-append read.command c.loop-command.yielded (c.in-Some.command ∷ into_iter_items c.next.new.self) in
     (assumption, (assumption, (assumption, callable_one g.P.FnMut (c.args.heap.now.items ++ items_in (read.commands all)) c.loop-command.heap.items (read.commands c.loop-command.yielded) (read.command c.in-Some.command) (read.commands (into_iter_items c.next.new.self)) c.loop-command.invariant.among (subst (λ cs. All (IsCallableOn g.P.FnMut (c.args.heap.now.items ++ items_in (read.commands all))) (predicates_in cs)) seen c.requires))))
 
 pub loop-command-preserved : goal.loop-command-preserved
@@ -36,7 +32,7 @@ loop-command-preserved g c =
     let command = c.in-Some.command in
     let rest = into_iter_items c.next.new.self in
     let is : all ≡ yielded ++ (command ∷ rest) = before.split ∙ ap (λ xs. yielded ++ xs) steps.0 in
-    let seen = parted read.command all yielded command rest is in
+    let seen = ap (map read.command) is ∙ map-append read.command yielded (command ∷ rest) in
     let replies = c.loop-command.replies.items in
     record {
       split = is ∙ sym (append_assoc yielded (command ∷ []) rest);

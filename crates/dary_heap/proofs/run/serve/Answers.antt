@@ -1,5 +1,6 @@
-use Rattle.dary_heap.proofs.Common.{rules, arith}
-use Rattle.dary_heap.proofs.run.Serving.{asks, callable_on_front, pops_where}
+use Rattle.dary_heap.proofs.Common.{arith, le_refl, refl, zero-le}
+use Rattle.dary_heap.proofs.Fronts.{same_state}
+use Rattle.dary_heap.proofs.run.Serving.{asks, callable_on_front, pops_where, serves_emptied, serves_same}
 use Rattle.dary_heap.proofs.run.serve.Goals as goal
 
 pub pop_if-requires : goal.pop_if-requires
@@ -32,7 +33,7 @@ pub returns-in-Pop : goal.returns-in-Pop
 returns-in-Pop g c = rw c.in-Pop.is (assumption c.pop.ensures)
 
 pub returns-in-Len : goal.returns-in-Len
-returns-in-Len g c = rw c.in-Len.is (assumption c.len.ensures)
+returns-in-Len g c = let e = c.len.ensures in rw c.in-Len.is (serves_same refl e.ordered (e.len, same_state _ _ refl) tt (le_refl _))
 
 pub returns-in-Retain : goal.returns-in-Retain
 returns-in-Retain g c = rw c.in-Retain.is c.retain.ensures
@@ -50,7 +51,9 @@ pub returns-in-Shrink : goal.returns-in-Shrink
 returns-in-Shrink g c = rw c.in-Shrink.is (assumption c.shrink.ensures)
 
 pub returns-in-Clear : goal.returns-in-Clear
-returns-in-Clear g c = rw c.in-Clear.is (assumption c.clear.ensures)
+returns-in-Clear g c =
+    let e = c.clear.ensures in
+    rw c.in-Clear.is (serves_emptied e.items refl (record { rises = omega (arith, e.uncounted); within = omega (arith, e.uncounted) }) tt zero-le)
 
 pub returns-in-Drain : goal.returns-in-Drain
 returns-in-Drain g c = rw c.in-Drain.is (assumption c.drain.ensures)
@@ -67,9 +70,6 @@ push-requires g c = assumption
 pub pop-requires : goal.pop-requires
 pop-requires g c = assumption
 
-pub len-requires : goal.len-requires
-len-requires g c = assumption
-
 pub extend-requires : goal.extend-requires
 extend-requires g c = assumption
 
@@ -81,9 +81,6 @@ reserve-requires g c = assumption
 
 pub shrink-requires : goal.shrink-requires
 shrink-requires g c = assumption
-
-pub clear-requires : goal.clear-requires
-clear-requires g c = assumption
 
 pub drain-requires : goal.drain-requires
 drain-requires g c = assumption
