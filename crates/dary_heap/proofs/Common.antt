@@ -3,24 +3,24 @@ pub use borrow.Author.Tests.{eqb-false, eqb-true, ltb-true}
 pub use denote.Ref.{Bor}
 pub use mathlib.Core.Bool.{◌&&◌}
 pub use mir.Val.{bool_byte}
-pub use Rattle.std.proofs.Common.{All, Bool, Contains, Err, IfNone, IfSome, IsPermutation, IsSome, IsTrue, List, None, Ok, Option, Result, Some, Vec, [], ap, append-nil, append_assoc, arith, drop, false, get_or, get_or-set_other, get_or-set_same, if◌then◌else◌, inl, inr, is_some, le_refl, length, length-append, length-set, map, min, nat_eq, nat_lt, pos_of_ne-zero, refl, rules, set, slice_get, slice_set, subst, suc, sym, take, true, vec_capacity, vec_len, zero, zero-le, ℕ, ◌*◌, ◌++◌, ◌+◌, ◌-◌, ◌/◌, ◌<◌, ◌^◌, ◌↔◌, ◌∙◌, ◌∷◌, ◌≡◌, ◌≢◌, ◌≤◌, ◌⊎◌}
+pub use Rattle.std.proofs.Common.{All, Bool, Contains, Err, IfNone, IfSome, IsPermutation, IsSome, IsTrue, List, None, Ok, Option, Result, Some, Vec, [], add-one, ap, append-nil, append_assoc, arith, drop, false, get_or, get_or-set_other, get_or-set_same, if◌then◌else◌, inl, inr, is_some, le_refl, length, length-append, length-set, length-take, lit<, map, min, nat_eq, nat_lt, pos_of_ne-zero, refl, replicate, rules, set, slice_get, slice_set, subst, suc, sum, sym, take, true, vec_capacity, vec_len, zero, zero-le, ℕ, ◌*◌, ◌++◌, ◌+◌, ◌-◌, ◌/◌, ◌<◌, ◌^◌, ◌↔◌, ◌∙◌, ◌∷◌, ◌≡◌, ◌≢◌, ◌≤◌, ◌⊎◌}
 pub use Rattle.std.proofs.Math.Nat.{div-le_self, div-mul-le_self, lt-div-mul-add, mul-le-mul_left, mul-le-mul_right, pow-succ'}
-pub use Rattle.std.proofs.iter.Next.{Ran, again, begun, less}
-pub use Rattle.std.proofs.lemmas.Bool.{cases_eq, cases_lt, true≢false}
+pub use Rattle.std.proofs.iter.Next.{Gave-then, Ran, Yields-more, again, begun, drained, if_no, if_yes, less, said}
+pub use Rattle.std.proofs.lemmas.Bool.{cases_eq, cases_lt, ne_eqb, true≢false}
 pub use Rattle.std.proofs.lemmas.Bool.Decides.{nat_tests}
-pub use Rattle.std.proofs.lemmas.List.{get_or_default, get_or_past, length-map, length-take-le, map-append, map-id, nil_from_length, take-append-drop, take_all, take_more}
-pub use Rattle.std.proofs.lemmas.List.Edits.{length-swap}
-pub use Rattle.std.proofs.lemmas.List.Elements.{All-contains, All-contains_itself, All-weaker, Contains-append_cases, Contains-append_left, Contains-append_right, Contains-push, recursion_from_All}
-pub use Rattle.std.proofs.lemmas.List.Sorted.{Contains-permutation, IsPermutation-append_left, IsPermutation-cons, IsPermutation-middle, IsPermutation-refl, IsPermutation-sym, IsPermutation-to_front, IsPermutation-trans, length_permutation}
-pub use Rattle.std.proofs.lemmas.List.Sums.{sum_by-set}
+pub use Rattle.std.proofs.lemmas.List.{get_or-replicate, get_or_default, get_or_past, length-map, length-replicate, length-take-le, map-append, map-id, nil_from_length, take-append-drop, take-set-le, take_all, take_more}
+pub use Rattle.std.proofs.lemmas.List.Edits.{length-swap, swap_is}
+pub use Rattle.std.proofs.lemmas.List.Elements.{All-contains, All-contains_itself, All-from_recursion, All-weaker, Contains-append_cases, Contains-append_left, Contains-append_right, Contains-get_or, Contains-push, Contains-push_cases, recursion_from_All}
+pub use Rattle.std.proofs.lemmas.List.Sorted.{Contains-permutation, IsPermutation-append_comm, IsPermutation-append_left, IsPermutation-cons, IsPermutation-middle, IsPermutation-refl, IsPermutation-sym, IsPermutation-to_front, IsPermutation-trans, length_permutation, sum_by-IsPermutation}
+pub use Rattle.std.proofs.lemmas.List.Sums.{sum-map, sum_by-cons, sum_by-set}
 pub use Rattle.std.proofs.lemmas.Map.Keys.{IsDistinct-IsPermutation, IsDistinct-cons, IsDistinct-head, IsDistinct-tail}
 pub use Rattle.std.proofs.lemmas.Nat.{le-div}
 pub use Rattle.std.proofs.lemmas.Option.{get_or_from_slice_get, slice_get-get_or, slice_get_cases, slice_get_past, slice_get_read, slice_get_within}
-pub use Rattle.std.proofs.lemmas.Result.{err_from_is_err_and}
+pub use Rattle.std.proofs.lemmas.Result.{MatchResult-weaker, err_from_is_err_and}
 pub use Rattle.std.specs.Bool.{Decides, OnFalse}
-pub use Rattle.std.specs.Cmp.{IsTotalOrder, nat_eq_equiv, unsigned_Decides}
+pub use Rattle.std.specs.Cmp.{IsTotalOrder, nat_cmp_is, nat_eq_equiv, unsigned_Decides}
 pub use Rattle.std.specs.Fn.{Called, CalledAt, Mut, TakesAt}
-pub use Rattle.std.specs.Iterator.{EndsFrom, Yields, items_left}
+pub use Rattle.std.specs.Iterator.{EndsFrom, Yields, YieldsFirst, YieldsFirstRef, YieldsLast, YieldsLastRef, items_left}
 pub use Rattle.std.specs.List.{AllByRecursion, items_where_true, sum_by, swap}
 unfoldable pub use Rattle.std.specs.List.{IsDistinct}
 pub use Rattle.std.specs.List.Retain.{ReturnsInTurn}
@@ -35,25 +35,25 @@ pub use Rattle.dary_heap.specs.Bounds.{RisesWithin, build_bound, charge, fix_bou
 pub use Rattle.dary_heap.specs.Choosing.{Chooses, FindsGreatestChild, IsAt, IsGreatestAt}
 pub use Rattle.dary_heap.specs.Contents.{Contents}
 pub use Rattle.dary_heap.specs.Drain.{drain_rest}
-pub use Rattle.dary_heap.specs.DrainSorted.{drained_heap}
-pub use Rattle.dary_heap.specs.Examining.{AreExaminedOnce, Pushes, all_edges_of, edges_of}
+pub use Rattle.dary_heap.specs.DrainSorted.{DrainsSorted, KeepsHeapAlong, drained_heap}
+pub use Rattle.dary_heap.specs.Examining.{AreExamined, AreExaminedOnce, Pushes, all_edges_of, edges_of}
 pub use Rattle.dary_heap.specs.Extending.{IsExtended}
 pub use Rattle.dary_heap.specs.Filtering.{first_no}
 pub use Rattle.dary_heap.specs.HeapOrder.{HasGreaterChild, IsAtMost, IsHeapOrdered, IsHeapOrderedBelowRoot, IsHeapOrderedButAt, IsLastGreatestChild, arity, parent}
 unfoldable pub use Rattle.dary_heap.specs.HeapOrder.{depth}
 pub use Rattle.dary_heap.specs.Hole.{filled}
-pub use Rattle.dary_heap.specs.Loan.{IsExceeded}
+pub use Rattle.dary_heap.specs.Loan.{IsExceeded, IsLent-written}
 pub use Rattle.dary_heap.specs.Machine.{Act, Acts, Append, AppendRefused, Ask, Asked, Changed, Clear, Command, Done, Drain, DrainSorted, End, Ends, Extend, ExtendRefused, Len, Loan, Loaned, Old, Pop, PopIf, Popped, Pops, PopsInTurn, Push, PushRefused, Pushed, PutBack, Refresh, Refused, Reply, Reserve, Retain, Seen, Shrink, Size, Step, Steps, TakeOut, Taken, Write, last_state}
 pub use Rattle.dary_heap.specs.Moving.{ComesTo, SiftsDown, SiftsToBottom, SiftsUp}
 pub use Rattle.dary_heap.specs.PeekMut.{loaned}
-pub use Rattle.dary_heap.specs.Popping.{IsDescending, IsGivenDescending, IsPop}
+pub use Rattle.dary_heap.specs.Popping.{GivesDescending, IsDescending, IsGivenDescending, IsPop}
 pub use Rattle.dary_heap.specs.Run.{IsServed, Runs, Serves, room, sure_after}
-pub use Rattle.dary_heap.specs.Searching.{IsAlong, Relaxes, state, state_cmp}
+pub use Rattle.dary_heap.specs.Searching.{AreApart, HasTooLarge, IsAlong, Relaxes, state, state_cmp}
 pub use Rattle.dary_heap.specs.Sifting.{IsLastGreatest, IsOrderedButAbove, IsOrderedButBelow, IsOrderedWithin, StaysFirst}
 unfoldable pub use Rattle.dary_heap.specs.Sifting.{sift_down_cost}
 pub use Rattle.dary_heap.specs.State.{IsJoined, IsSameState, IsState, front, front_with}
 pub use Rattle.dary_heap.specs.Tail.{IsWeight}
-pub use Rattle.dary_heap.specs.Walk.{Graph, HasEdge, IsWalk, IsWithin, cost_of}
+pub use Rattle.dary_heap.specs.Walk.{Graph, HasCritical, HasEdge, IsLeastCost, IsUnreached, IsWalk, IsWithin, NoneCriticalBelow, cost_of}
 pub use Rattle.dary_heap.specs.declared.hole.places.Hole.{Hole}
 pub use Rattle.dary_heap.specs.declared.shortest_path.Edge.{Edge}
 pub use Rattle.dary_heap.specs.declared.shortest_path.State.{State}

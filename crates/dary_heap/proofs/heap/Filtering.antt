@@ -1,10 +1,7 @@
 -- A predicate that is asked about the items of a list, one after another.
-use Rattle.dary_heap.proofs.{◌≡◌, ℕ, zero, suc, ◌+◌, ◌<◌, ◌≤◌, Bool, true, false, List, [], ◌∷◌, ◌++◌, length, get_or, refl, sym, ap, ◌∙◌, subst, arith, Some, slice_get, take, drop, take_more, slice_get_within, get_or_from_slice_get, Mut, TakesAt, CalledAt, Bor, items_where_true, ReturnsInTurn, TakesInTurn, first_no, bool_byte, ◌&&◌, nat_eq, set, swap, take_all, exchanges}
+use Rattle.dary_heap.proofs.{◌≡◌, ℕ, zero, suc, ◌+◌, ◌<◌, ◌≤◌, Bool, true, false, List, [], ◌∷◌, ◌++◌, length, get_or, refl, sym, ap, ◌∙◌, subst, arith, Some, slice_get, take, drop, take_more, slice_get_within, get_or_from_slice_get, Mut, TakesAt, CalledAt, Bor, items_where_true, ReturnsInTurn, TakesInTurn, first_no, bool_byte, ◌&&◌, nat_eq, set, swap, take_all, exchanges, length-take, take-set-le, swap_is}
 use Rattle.std.proofs.Retain.{answers_push, picked_push_true}
-use Rattle.std.proofs.Common.{length-take}
 use Rattle.std.proofs.Math.Dec.{eqb-suc-suc, eqb-zero-suc}
-use Rattle.std.proofs.lemmas.List.{take-set-le}
-use Rattle.std.proofs.lemmas.List.Edits.{swap_is}
 
 -- one item more, by the answer for it
 pub ReturnsInTurn-more : {X P : Type 0} (R : P → X → Bool → P → Type 0) (p q r : P) (bs : List Bool) (b : Bool) (xs : List X) (x : X) → slice_get xs (length bs) ≡ Some x → ReturnsInTurn R p bs xs q → R q x b r → ReturnsInTurn R p (bs ++ b ∷ []) xs r

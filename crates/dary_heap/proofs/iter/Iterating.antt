@@ -1,6 +1,5 @@
 -- What iterators give in a row, if their remaining items are seen as a list.
-use Rattle.dary_heap.proofs.Common.{List, length, ap}
-use Rattle.std.specs.Iterator.{YieldsFirst, YieldsLast, YieldsFirstRef, YieldsLastRef}
+use Rattle.dary_heap.proofs.Common.{List, length, ap, YieldsFirst, YieldsLast, YieldsFirstRef, YieldsLastRef}
 use Rattle.std.specs.Iterator.Runs.{YieldsInOrder, YieldsInReverse, YieldsRefsInOrder, YieldsRefsInReverse}
 use Rattle.std.proofs.iter.runs.Sources.{from_front, from_back, as_is, as_is_back}
 

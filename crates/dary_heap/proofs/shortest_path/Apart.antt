@@ -1,8 +1,6 @@
 -- States that differ, lists in which no two states are the same, and a greatest state, which is a cheapest one.
-use Rattle.dary_heap.proofs.Common.{◌≡◌, ◌<◌, true, false, nat_eq, List, ◌∷◌, Contains, sym, ap, ◌∙◌, arith, true≢false, nat_tests, All-contains, All-contains_itself, All-weaker, recursion_from_All, IsDistinct-IsPermutation, IsDistinct-cons, IsDistinct-head, IsDistinct-tail, nat_eq_equiv, IsDistinct, IsSameBag, State, ◌&&◌, ◌≤◌, inl, inr, cases_lt, nat_cmp, ordering_then, Greater, IsGreatest, state_cmp}
-use Rattle.std.proofs.lemmas.List.Elements.{All-from_recursion}
+use Rattle.dary_heap.proofs.Common.{◌≡◌, ◌<◌, true, false, nat_eq, List, ◌∷◌, Contains, sym, ap, ◌∙◌, arith, true≢false, nat_tests, All-contains, All-contains_itself, All-weaker, recursion_from_All, IsDistinct-IsPermutation, IsDistinct-cons, IsDistinct-head, IsDistinct-tail, nat_eq_equiv, IsDistinct, IsSameBag, State, ◌&&◌, ◌≤◌, inl, inr, cases_lt, nat_cmp, ordering_then, Greater, IsGreatest, state_cmp, All-from_recursion, nat_cmp_is}
 use Rattle.dary_heap.specs.Searching.{same_state}
-use Rattle.std.specs.Cmp.{nat_cmp_is}
 
 flips : (s t : State) → same_state s t ≡ same_state t s
 flips s t = ap (λ b. b && nat_eq s.position t.position) (nat_eq_equiv.symm s.cost t.cost) ∙ ap (λ b. nat_eq t.cost s.cost && b) (nat_eq_equiv.symm s.position t.position)

@@ -1,13 +1,7 @@
 -- What a search examined and pushed so far. No node's edges are examined twice, since states come out in the order of their cost and no state is pushed twice.
-use Rattle.dary_heap.proofs.Common.{◌≡◌, ℕ, zero, suc, ◌+◌, ◌-◌, ◌*◌, ◌<◌, ◌≤◌, false, nat_eq, inl, inr, List, [], ◌∷◌, ◌++◌, length, map, take, drop, Contains, arith, get_or, get_or-set_same, get_or-set_other, refl, sym, ap, ◌∙◌, subst, append_assoc, append-nil, length-append, length_permutation, Some, slice_get, Vec, mul-le-mul_left, mul-le-mul_right, true≢false, cases_lt, get_or_past, length-take-le, take-append-drop, All-contains_itself, All-weaker, recursion_from_All, IsPermutation-sym, IsPermutation-to_front, sum_by-set, IsDistinct-IsPermutation, IsDistinct-cons, IsDistinct-head, IsDistinct-tail, nat_eq_equiv, unsigned_Decides, Global, AllByRecursion, IsDistinct, sum_by, IsSameBag, IsGreatest, RisesWithin, push_bound, pop_bound, Contents, Pushes, AreExaminedOnce, edges_of, all_edges_of, state_cmp, state, Relaxes, Graph, Edge, State, set}
-use Rattle.std.proofs.lemmas.Bool.{ne_eqb}
-use Rattle.std.proofs.lemmas.List.Elements.{Contains-push_cases}
-use Rattle.std.proofs.lemmas.List.Sums.{sum_by-cons, sum-map}
+use Rattle.dary_heap.proofs.Common.{◌≡◌, ℕ, zero, suc, ◌+◌, ◌-◌, ◌*◌, ◌<◌, ◌≤◌, false, nat_eq, inl, inr, List, [], ◌∷◌, ◌++◌, length, map, take, drop, Contains, arith, get_or, get_or-set_same, get_or-set_other, refl, sym, ap, ◌∙◌, subst, append_assoc, append-nil, length-append, length_permutation, Some, slice_get, Vec, mul-le-mul_left, mul-le-mul_right, true≢false, cases_lt, get_or_past, length-take-le, take-append-drop, All-contains_itself, All-weaker, recursion_from_All, IsPermutation-sym, IsPermutation-to_front, sum_by-set, IsDistinct-IsPermutation, IsDistinct-cons, IsDistinct-head, IsDistinct-tail, nat_eq_equiv, unsigned_Decides, Global, AllByRecursion, IsDistinct, sum_by, IsSameBag, IsGreatest, RisesWithin, push_bound, pop_bound, Contents, Pushes, AreExaminedOnce, edges_of, all_edges_of, state_cmp, state, Relaxes, Graph, Edge, State, set, ne_eqb, Contains-push_cases, sum_by-cons, sum-map, AreExamined, AreApart}
+use Rattle.dary_heap.proofs.{came_alone, came_first, came_later, holds_none, depth-later, times_depth-later}
 use Rattle.dary_heap.proofs.shortest_path.Apart.{apart_more, apart_less, not_twice, no_cheaper}
-use Rattle.dary_heap.proofs.Bags.{came_alone, came_first, came_later, holds_none}
-use Rattle.dary_heap.proofs.Depth.{depth-later, times_depth-later}
-use Rattle.dary_heap.specs.Examining.{AreExamined}
-use Rattle.dary_heap.specs.Searching.{AreApart}
 
 -- the edges of some nodes were examined, each node's once: no state that waits can have them examined again
 pub record AreOnce (limit : ℕ) (g : Graph) (found : List ℕ) (waiting : List State) (examined : List Edge) : Type 0 where

@@ -1,8 +1,6 @@
 -- Edges that are examined one after another.
-use Rattle.dary_heap.proofs.Common.{◌≡◌, ◌⊎◌, ℕ, ◌+◌, ◌<◌, ◌≤◌, inl, inr, List, [], ◌∷◌, ◌++◌, length, Contains, arith, get_or, refl, sym, ap, ◌∙◌, subst, get_or-set_same, get_or-set_other, cases_eq, get_or_default, Contains-push, Contains-append_left, Contains-append_right, Contains-append_cases, length_permutation, sum_by-set, IsSameBag, state, IsAlong, Relaxes, Edge, State, set, length-set}
+use Rattle.dary_heap.proofs.{◌≡◌, ◌⊎◌, ℕ, ◌+◌, ◌<◌, ◌≤◌, inl, inr, List, [], ◌∷◌, ◌++◌, length, Contains, arith, get_or, refl, sym, ap, ◌∙◌, subst, get_or-set_same, get_or-set_other, cases_eq, get_or_default, Contains-push, Contains-append_left, Contains-append_right, Contains-append_cases, length_permutation, sum_by-set, IsSameBag, state, IsAlong, Relaxes, Edge, State, set, length-set, came_first, came_later, came_cases, alone}
 use Rattle.dary_heap.proofs.shortest_path.Apart.{apart_more}
-use Rattle.dary_heap.proofs.Bags.{came_first, came_later, came_cases}
-use Rattle.dary_heap.proofs.Fronts.{alone}
 
 -- what the code read as the cost found
 found_is : (limit : ℕ) (found : List ℕ) (i x : ℕ) → i < length found → x ≡ get_or found i x → x ≡ get_or found i limit
@@ -88,16 +86,10 @@ module _ {limit cost : ℕ} where
       ]
       | inr along ↦ inr (IsAlong-among more (edges ++ more) s (Contains-append_right edges more) along)
     ];
-    cheaper = λ s h. elim (b.cheaper s h) [
-      | inl c ↦ a.cheaper s c
-      | inr lower ↦ inr (omega (arith, lower, a.falls s.position))
-    ];
+    cheaper = λ s h. elim (b.cheaper s h) [ inl c ↦ a.cheaper s c | inr lower ↦ inr (omega (arith, lower, a.falls s.position)) ];
     apart = λ before. b.apart (a.apart before);
     changes = λ v. elim (b.changes v) [
-      | inl e ↦ elim (a.changes v) [
-        | inl d ↦ inl (e ∙ d)
-        | inr c ↦ inr (rw e (b.keeps (state (get_or mid v limit) v) c))
-      ]
+      | inl e ↦ elim (a.changes v) [ inl d ↦ inl (e ∙ d) | inr c ↦ inr (rw e (b.keeps (state (get_or mid v limit) v) c)) ]
       | inr c ↦ inr c
     ];
     spent = omega (arith, a.spent, b.spent);

@@ -1,11 +1,6 @@
 -- Walks, edge by edge; what holds of a search each time that a state is about to be taken, and what follows from it.
-use Rattle.dary_heap.proofs.Common.{◌≡◌, ℕ, ◌+◌, ◌<◌, List, [], ◌∷◌, ◌++◌, Contains, All, arith, refl, sym, subst, Some, slice_get, Vec, Global, All-contains, slice_get_within, get_or_from_slice_get, Graph, IsWithin, HasEdge, IsWalk, cost_of, Edge, ◌≢◌, ◌⊎◌, ◌≤◌, min, inl, inr, length, get_or, get_or-set_same, get_or-set_other, ap, ◌∙◌, cases_lt, cases_eq, get_or_default, get_or_past, IsPermutation-sym, slice_get_read, IsSameBag, IsGreatest, state_cmp, state, Relaxes, State}
-use Rattle.std.proofs.Math.ListN.{set, length-set, replicate}
-use Rattle.std.proofs.lemmas.List.{get_or-replicate, length-replicate}
+use Rattle.dary_heap.proofs.{◌≡◌, ℕ, ◌+◌, ◌<◌, List, [], ◌∷◌, ◌++◌, Contains, All, arith, refl, sym, subst, Some, slice_get, Vec, Global, All-contains, slice_get_within, get_or_from_slice_get, Graph, IsWithin, HasEdge, IsWalk, cost_of, Edge, ◌≢◌, ◌⊎◌, ◌≤◌, min, inl, inr, length, get_or, get_or-set_same, get_or-set_other, ap, ◌∙◌, cases_lt, cases_eq, get_or_default, get_or_past, IsPermutation-sym, slice_get_read, IsSameBag, IsGreatest, state_cmp, state, Relaxes, State, get_or-replicate, length-replicate, HasTooLarge, IsLeastCost, IsUnreached, HasCritical, NoneCriticalBelow, holds_none, came_alone, came_first, came_later, came_cases, set, length-set, replicate}
 use Rattle.dary_heap.proofs.shortest_path.Apart.{no_cheaper}
-use Rattle.dary_heap.proofs.Bags.{holds_none, came_alone, came_first, came_later, came_cases}
-use Rattle.dary_heap.specs.Searching.{HasTooLarge}
-use Rattle.dary_heap.specs.Walk.{IsLeastCost, IsUnreached, HasCritical, NoneCriticalBelow}
 
 -- some walk from u to v costs c
 pub record Reaches (g : Graph) (u v c : ℕ) : Type 0 where

@@ -63,10 +63,14 @@ impl<T: Ord, const D: usize> DaryHeap<T, D> {
         ensures other_unchanged { OnErr result (other.new ≡ other.old) }
     {
         if self.items.len() < other.items.len() {
-            other.items.reserve(self.items.len())?;
+            let Ok(()) = other.items.reserve(self.items.len()) else {
+                return Err(AllocError);
+            };
             mem::swap(&mut self.items, &mut other.items);
         } else {
-            self.items.reserve(other.items.len())?;
+            let Ok(()) = self.items.reserve(other.items.len()) else {
+                return Err(AllocError);
+            };
         }
         take_in::<T, D>(&mut self.items, &mut other.items, &mut self.judge);
         Ok(())
@@ -147,9 +151,12 @@ fn make_room<T>(items: &mut Vec<T>, others: usize) -> Result<(), AllocError>
     ensures room { OnOk result (vec_len items.new < vec_capacity items.new) }
     ensures capacity { vec_capacity items.old ≤ vec_capacity items.new }
 {
-    if others > 0 && items.reserve(others.saturating_add(1)).is_ok() {
-        return Ok(());
+    if others == 0 {
+        return items.reserve(1);
     }
+    let Err(_) = items.reserve(others.saturating_add(1)) else {
+        return Ok(());
+    };
     items.reserve(1)
 }
 

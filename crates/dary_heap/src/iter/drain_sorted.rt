@@ -45,7 +45,6 @@ impl<'a, T: Ord + Drop, const D: usize> Drop for DrainSorted<'a, T, D> {
 }
 
 /// Pops the items that a heap has left, and drops them.
-#[tactic(auto, using(crate::proofs::iter::Popping::pops_bound_step))]
 fn pop_all<T: Ord + Drop, const D: usize>(heap: &mut DaryHeap<T, D>)
     ensures items { heap.new.items ≡ [] }
     ensures capacity { heap.new.capacity ≡ heap.old.capacity }

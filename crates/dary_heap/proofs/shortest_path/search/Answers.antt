@@ -1,6 +1,4 @@
-use Rattle.dary_heap.proofs.Common.{[], ◌∙◌, length, arith, length_permutation, subst, err_from_is_err_and, AreExaminedOnce}
-use Rattle.std.proofs.Common.{lit<}
-use Rattle.dary_heap.proofs.Bags.{has_none}
+use Rattle.dary_heap.proofs.{[], ◌∙◌, length, arith, length_permutation, subst, err_from_is_err_and, AreExaminedOnce, lit<, has_none}
 use Rattle.dary_heap.proofs.shortest_path.Examining.{charged_ends, none_examined, once_few, IsCharged, charged_begins, charged_pop, charged_push, once_begins, once_more, once_part, once_skips}
 use Rattle.dary_heap.proofs.shortest_path.Searching.{IsSearch, taken, current, row_read, found_least, found_uncritical, none_reached, none_uncritical, too_large, after_skip, after_examining, search_begins}
 use Rattle.dary_heap.proofs.shortest_path.search.Goals.{In_default-pop, In_err-relax}
@@ -10,8 +8,9 @@ pub loop-cost-init : goal.loop-cost-init
 loop-cost-init c =
     let bag = rw c.requires.empty at c.in-Ok-push.ensures.bag in
     let unexamined = c.add_push.ensures.examined ∙ c.requires.unexamined in
+    let nodes = c.len.ensures ∙ c.args.adj_list.now.ok.0 in
     record {
-      search = search_begins c.len.result (lit< tt) (omega (arith, c.args.adj_list.now.ok.0)) (omega (arith, c.requires.start)) (c.in-Ok.ensures.items_if_clones_equal (λ y h. h)) bag;
+      search = search_begins c.len.result (lit< tt) nodes (rw nodes c.requires.start) (c.in-Ok.ensures.items_if_clones_equal (λ y h. h)) bag;
       once = once_begins _ c.args.start (omega (arith, c.requires.start, c.in-Ok.ensures.len, c.in-Ok.found.ok.0, c.args.adj_list.now.ok.0, c.len.ensures)) bag unexamined;
       pushed = omega (arith, c.requires.unpushed, c.add_push.ensures.pushes);
       charged = rw unexamined (charged_begins c.args.heap.now c.push.new.self c.requires.empty (omega (arith, length_permutation _ _ c.in-Ok-push.ensures.bag)) c.in-Ok-push.ensures.counted);
@@ -24,7 +23,7 @@ pub returns-then-position-goal-clause-uncritical : goal.returns-then-position-go
 returns-then-position-goal-clause-uncritical c = found_uncritical c.loop-cost.invariant.search c.in-Some.ensures.bag c.in-Some.ensures.greatest c.if-position-goal.true
 
 pub index-requires : goal.index-requires
-index-requires c = omega (arith, (taken c.loop-cost.invariant.search c.in-Some.ensures.bag).within)
+index-requires c = rw c.loop-cost.found.ok.0 (taken c.loop-cost.invariant.search c.in-Some.ensures.bag).within
 
 pub loop-cost-preserved-then-cost-index : goal.loop-cost-preserved-then-cost-index
 loop-cost-preserved-then-cost-index c =

@@ -1,5 +1,4 @@
-use Rattle.dary_heap.proofs.Common.{◌+◌, ◌≤◌, length}
-use Rattle.std.proofs.Common.{sum}
+use Rattle.dary_heap.proofs.Common.{◌+◌, ◌≤◌, length, sum}
 use Rattle.dary_heap.proofs.shortest_path.Examining.{AreOnce, IsCharged}
 use Rattle.dary_heap.proofs.shortest_path.Searching.{IsSearch}
 use Rattle.dary_heap.proofs.shortest_path.search.Given as goal

@@ -1,19 +1,21 @@
-use Rattle.dary_heap.proofs.{rules, refl, sym, subst, IsHeapOrdered, ordered_state}
+use Rattle.dary_heap.proofs.{rules, refl, sym, ap, ◌∙◌, subst, vec_capacity, Vec, Global, IsHeapOrdered, ordered_state}
 use Rattle.dary_heap.proofs.heap.DaryHeap.peek_mut.Goals as goal
 
 pub returns : goal.returns
 returns g c =
-    let ordered = subst (λ v. IsHeapOrdered g.T.Ord.cmp g.row.D v.items) (sym c.replace-items.ensures.value) c.self.invariant in (
+    let is = c.replace-items.ensures.value in
+    let left = c.replace-items.ensures.after in
+    let ordered = subst (λ v. IsHeapOrdered g.T.Ord.cmp g.row.D v.items) (sym is) c.self.invariant in (
       (refl, λ w. refl, tt),
       record {
         unchanged = tt;
         variant = search rules;
-        loaned = search rules;
-        unwritten = search rules;
+        loaned = rw is c.self.view_is;
+        unwritten = refl;
         greatest = ordered_state g.met.T.Ord.total g.row.D _ ordered;
         ordered = ordered;
-        emptied = search rules;
-        unallocated = search rules;
+        emptied = ap (λ (v : Vec g.row.T.Denot Global). v.items) left ∙ c.new.ensures.items;
+        unallocated = ap (λ (v : Vec g.row.T.Denot Global). vec_capacity v) left ∙ c.new.ensures.capacity;
         same_reference = refl;
       },
     )

@@ -8,7 +8,7 @@ first_of (Some item) xs some is = sym is
 
 -- the length that the vector has is that of its items
 long : (g : _) (c : goal.After-pop_with g) → c.self.inside.items.len ≡ length c.self.inside.items.items
-long g c = let same = c.self.inside.items.ok.0 in omega arith
+long g c = c.self.inside.items.ok.0
 
 pub invariant_of-self : goal.invariant_of-self
 invariant_of-self g c = c.pop_with.ensures.ordered (below_root g.row.D _ c.self.invariant)

@@ -13,7 +13,7 @@ is : (g : _) (c : goal.After-self-1 g) → c.as_mut_slice.result.now ≡ items_w
 is g c = c.as_mut_slice.ensures.value ∙ c.keep-start.ensures.kept.4
 
 all : (g : _) (c : goal.After-self-1 g) → length c.mend_with.new.items ≡ c.keep-start.new.items.len
-all g c = omega arith
+all g c = c.mend_with.auto.items ∙ c.as_mut_slice.ensures.len
 
 -- the heap's items at the end
 pub invariant_of-self : goal.invariant_of-self
@@ -34,7 +34,7 @@ returns-clause-retained g c =
     let xs = c.self.inside.items.items in
     let zs = c.mend_with.new.items in
     let now = c.as_mut_slice.result.now in
-    let long : length now ≡ length zs = omega arith in
+    let long = sym c.mend_with.auto.items in
     rw (← c.self.view_is) record {
       answers = k.0;
       after = k.1;
@@ -46,11 +46,10 @@ returns-clause-retained g c =
           let last : c.keep-start.result ≡ length now = omega (arith, k.5, k.2, ap length whole, none) in
           let nothing : length now - c.keep-start.result ≡ 0 = omega arith in
           let uncounted = rw nothing at c.mend_with.ensures.counted in
-          same_contents _ _ (written_back _ zs _ (all g c) ∙ c.mend_with.ensures.unchanged last ∙ whole) c.keep-start.ensures.capacity (omega arith);
+          same_contents _ _ (written_back _ zs _ (all g c) ∙ c.mend_with.ensures.unchanged last ∙ whole) c.keep-start.ensures.capacity (omega (arith, uncounted));
       counted = rw (written_back _ zs _ (all g c)) (subst (λ m. RisesWithin c.self.inside.judge c.mend_with.new.judge (mend_bound g.row.D m (m - first_no k.0))) long (subst (λ m. RisesWithin c.self.inside.judge c.mend_with.new.judge (mend_bound g.row.D (length now) (length now - m))) k.5 c.mend_with.ensures.counted));
     }
 
 pub returns-clause-len : goal.returns-clause-len
 returns-clause-len g c =
-    let long : length c.as_mut_slice.result.now ≡ length c.mend_with.new.items = omega arith in
-    rw (← c.self.view_is) (rw (written_back _ _ _ (all g c)) (omega (arith, long, ap length (is g c), few_picked c.keep-start.ensures.kept.0 c.self.inside.items.items)))
+    rw (← c.self.view_is) (rw (written_back _ _ _ (all g c)) (omega (arith, c.mend_with.auto.items, ap length (is g c), few_picked c.keep-start.ensures.kept.0 c.self.inside.items.items)))

@@ -1,29 +1,29 @@
-use Rattle.dary_heap.proofs.Common.{◌≡◌, ◌++◌, length, take, map, vec_capacity, sym, ap, ◌∙◌, subst, arith, IsExtended, IsHeapOrdered}
-use Rattle.std.proofs.lemmas.Result.{MatchResult-weaker}
+use Rattle.dary_heap.proofs.Common.{◌≡◌, ◌++◌, length, take, map, vec_capacity, sym, ap, ◌∙◌, subst, IsExtended, IsHeapOrdered, MatchResult-weaker}
 use Rattle.dary_heap.proofs.heap.Extending.{Yields-front, mended}
 use Rattle.dary_heap.proofs.sift.Written.{written_back}
-use Rattle.dary_heap.proofs.heap.join.extend_heap.Given.{Over}
 use Rattle.dary_heap.proofs.heap.join.extend_heap.Goals.{After-mend_with}
 use Rattle.dary_heap.proofs.heap.join.extend_heap.Goals as goal
 
 -- the slice before it is mended
-behind : (g : Over) (c : After-mend_with g) → c.as_mut_slice.result.now ≡ c.heap.inside.items.items ++ map g.X.Element.value c.push_all-outcome.ensures.came.0
+behind : (g : _) (c : After-mend_with g) → c.as_mut_slice.result.now ≡ c.heap.inside.items.items ++ map g.X.Element.value c.push_all-outcome.ensures.came.0
 behind g c = c.as_mut_slice.ensures.value ∙ c.push_all-outcome.ensures.came.1
 
 -- mending keeps the length
-all : (g : Over) (c : After-mend_with g) → length c.mend_with.new.items ≡ c.push_all-outcome.new.items.len
-all g c = omega arith
+all : (g : _) (c : After-mend_with g) → length c.mend_with.new.items ≡ c.push_all-outcome.new.items.len
+all g c = c.mend_with.auto.items ∙ c.as_mut_slice.ensures.len
 
-ordered : (g : Over) (c : After-mend_with g) → IsHeapOrdered g.T.Ord.cmp g.row.D c.mend_with.new.items
+start : (g : _) (c : After-mend_with g) → c.len-start.result ≡ length c.heap.inside.items.items
+start g c = c.len-start.ensures ∙ c.heap.inside.items.ok.0
+
+ordered : (g : _) (c : After-mend_with g) → IsHeapOrdered g.T.Ord.cmp g.row.D c.mend_with.new.items
 ordered g c =
     let xs = c.heap.inside.items.items in
-    let start : c.len-start.result ≡ length xs = omega arith in
-    let front : take c.len-start.result c.as_mut_slice.result.now ≡ xs = ap (take c.len-start.result) (behind g c) ∙ written_back _ xs _ (sym start) in
+    let front : take c.len-start.result c.as_mut_slice.result.now ≡ xs = ap (take c.len-start.result) (behind g c) ∙ written_back _ xs _ (sym (start g c)) in
     c.mend_with.ensures.ordered (subst (IsHeapOrdered g.T.Ord.cmp g.row.D) (sym front) c.heap.invariant)
 
 -- what came in is taken into the heap
-taken : (g : Over) (c : After-mend_with g) → IsExtended g.T.Ord.cmp g.row.D (record { items = c.heap.inside.items.items; capacity = vec_capacity c.heap.inside.items; comparisons = c.heap.inside.judge }) (map g.X.Element.value c.push_all-outcome.ensures.came.0) (record { items = c.mend_with.new.items; capacity = vec_capacity c.push_all-outcome.new.items; comparisons = c.mend_with.new.judge })
-taken g c = mended _ _ _ _ c.len-start.result (behind g c) (omega arith) (omega arith) c.mend_with.ensures.bag c.mend_with.ensures.unchanged (ordered g c) c.mend_with.ensures.counted c.push_all-outcome.ensures.capacity
+taken : (g : _) (c : After-mend_with g) → IsExtended g.T.Ord.cmp g.row.D (record { items = c.heap.inside.items.items; capacity = vec_capacity c.heap.inside.items; comparisons = c.heap.inside.judge }) (map g.X.Element.value c.push_all-outcome.ensures.came.0) (record { items = c.mend_with.new.items; capacity = vec_capacity c.push_all-outcome.new.items; comparisons = c.mend_with.new.judge })
+taken g c = mended _ _ _ _ c.len-start.result (behind g c) (start g c) (sym c.mend_with.auto.items) c.mend_with.ensures.bag c.mend_with.ensures.unchanged (ordered g c) c.mend_with.ensures.counted c.push_all-outcome.ensures.capacity
 
 -- the heap is ordered at the end
 pub invariant_of-heap : goal.invariant_of-heap
@@ -39,7 +39,7 @@ returns-clause-refused g c =
       from = c.into_iter-iter.result;
       came = k.0;
       begins = c.into_iter-iter.ensures.into_iter_gives;
-      refused = record { refused = refusal.refused; left = refusal.left; gave = refusal.gave; full = omega (arith, refusal.full) };
+      refused = record { refused = refusal.refused; left = refusal.left; gave = refusal.gave; full = rw (← c.heap.inside.items.ok.0) refusal.full };
       extended = rw (written_back _ _ _ (all g here)) (taken g here);
     }))
 

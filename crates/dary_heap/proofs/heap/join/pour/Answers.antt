@@ -1,5 +1,4 @@
-use Rattle.dary_heap.proofs.Common.{◌++◌, [], ◌∷◌, sym, ap, ◌∙◌, arith, append-nil, length-append, begun, again, less}
-use Rattle.std.proofs.iter.Next.{Gave-then}
+use Rattle.dary_heap.proofs.Common.{◌++◌, [], ◌∷◌, sym, ap, ◌∙◌, arith, append-nil, length-append, begun, again, less, Gave-then}
 use Rattle.dary_heap.proofs.heap.Extending.{came_both}
 use Rattle.dary_heap.proofs.heap.join.pour.Goals as goal
 

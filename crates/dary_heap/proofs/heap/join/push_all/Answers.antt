@@ -1,5 +1,4 @@
-use Rattle.dary_heap.proofs.Common.{◌≡◌, ◌++◌, [], ◌∷◌, vec_len, vec_capacity, ap, ◌∙◌, subst, arith, length-append, again, err_from_is_err_and, OnFalse}
-use Rattle.std.proofs.iter.Next.{drained, if_yes, if_no, said, Yields-more}
+use Rattle.dary_heap.proofs.Common.{◌≡◌, ◌++◌, [], ◌∷◌, vec_len, vec_capacity, ap, ◌∙◌, subst, arith, length-append, again, err_from_is_err_and, OnFalse, drained, if_yes, if_no, said, Yields-more}
 use Rattle.dary_heap.proofs.heap.Extending.{came_both, ran_dry, ran_on}
 use Rattle.dary_heap.proofs.heap.join.push_all.Goals as goal
 

@@ -1,4 +1,4 @@
-use Rattle.dary_heap.proofs.Common.{IsPermutation-refl, length_permutation, rules, ◌≡◌, refl, ap, ◌∙◌, length, front, IsSameBag, IsHeapOrdered, IsExceeded, loaned}
+use Rattle.dary_heap.proofs.Common.{IsPermutation-refl, length_permutation, ◌≡◌, refl, ap, ◌∙◌, length, front, IsSameBag, IsHeapOrdered, IsExceeded, loaned}
 use Rattle.dary_heap.proofs.peek_mut.Loans.{lone_uncounted, lone_unexceeded, sunk_unmoved}
 use Rattle.dary_heap.proofs.sift.Written.{none_counted, same_contents, written_back}
 use Rattle.dary_heap.proofs.peek_mut.PeekMut.drop.Goals.{After-swap, then-written, else-written}
@@ -35,11 +35,6 @@ returns-clause-ordered g c =
       | else-written w ↦ rw (w.items-is, c.into_vec-items.ensures.items) (lent.whole w.if-written.false)
     ])
 
-pub returns-clause-alone : goal.returns-clause-alone
-returns-clause-alone g c = λ one.
-    let still = returns-clause-unmoved g c (lone_unexceeded g.T.Ord.cmp _ one) in
-    same_contents _ _ still (search rules) (lone_uncounted g.row.D _ _ _ one (search rules))
-
 pub invariant_of-heap : goal.invariant_of-heap
 invariant_of-heap g c = rw c.swap.ensures.x_after (left g c).1
 
@@ -72,6 +67,11 @@ returns-clause-unwritten g c = λ settled. rw c.swap.ensures.x_after (elim c.if-
   | then-written w ↦ let is = w.if-written.true in cc
   | else-written w ↦ same_contents _ _ (rw w.items-is c.into_vec-items.ensures.items) (rw w.items-is c.into_vec-items.ensures.capacity) (rw (w.heap-inside-is, ← c.heap.view_is) refl)
 ])
+
+pub returns-clause-alone : goal.returns-clause-alone
+returns-clause-alone g c = λ one.
+    let still = returns-clause-unmoved g c (lone_unexceeded g.T.Ord.cmp _ one) in
+    same_contents _ _ still (returns-clause-capacity g c) (lone_uncounted g.row.D _ _ _ one (returns-clause-counted g c))
 
 pub invariant_of-self : goal.invariant_of-self
 invariant_of-self g c = record { lent = c.args.self.lent }

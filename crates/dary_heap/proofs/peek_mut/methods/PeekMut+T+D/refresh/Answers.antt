@@ -25,9 +25,7 @@ returns-then-not-self g c =
 
 -- the loan's vector holds what the sink left
 written : (g : _) (c : After-self-1 g) (ws : List g.row.T.Denot) → take c.args.self.now.items.len (c.sink_with-moved.new.items ++ ws) ≡ c.sink_with-moved.new.items
-written g c ws =
-    let long = c.args.self.now.items.ok.0 in
-    written_back _ c.sink_with-moved.new.items ws (omega arith)
+written g c ws = written_back _ c.sink_with-moved.new.items ws (c.sink_with-moved.auto.items ∙ c.as_mut_slice.ensures.len)
 
 -- a heap
 ordered : (g : _) (c : After-self-1 g) → IsHeapOrdered g.T.Ord.cmp g.row.D c.sink_with-moved.new.items

@@ -1,6 +1,5 @@
-use Rattle.dary_heap.proofs.Common.{refl, length, slice_get_read}
+use Rattle.dary_heap.proofs.Common.{refl, length, slice_get_read, IsLent-written}
 use Rattle.dary_heap.specs.Lending.{with_first-is}
-use Rattle.dary_heap.specs.Loan.{IsLent-written}
 use Rattle.dary_heap.proofs.peek_mut.methods.PeekMutDerefMut.deref_mut.Goals as goal
 
 pub returns : goal.returns
