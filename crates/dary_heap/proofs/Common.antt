@@ -32,7 +32,7 @@ pub use Rattle.std.specs.declared.cmp.Ordering.TheVariants.{Equal, Greater, Less
 pub use Rattle.dary_heap.specs.Asking.{IsCallableOn, TakesInTurn, items_in, predicates_in, written}
 pub use Rattle.dary_heap.specs.Bag.{IsGreatest, IsGreatest-same_bag, IsSameBag}
 pub use Rattle.dary_heap.specs.Bounds.{RisesWithin, build_bound, charge, fix_bound, mend_bound, pop_bound, pops_bound, push_bound, refreshes, sink_bound}
-pub use Rattle.dary_heap.specs.Choosing.{Chooses, FindsGreatestChild, IsAt, IsGreatestAt}
+pub use Rattle.dary_heap.specs.Choosing.{Chooses, FindsGreatestChild, IsAt, IsBelow, IsGreatestAt}
 pub use Rattle.dary_heap.specs.Contents.{Contents}
 pub use Rattle.dary_heap.specs.Drain.{drain_rest}
 pub use Rattle.dary_heap.specs.DrainSorted.{DrainsSorted, KeepsHeapAlong, drained_heap}
