@@ -222,7 +222,10 @@ fn serve<T: Ord + Drop, const D: usize, P: FnMut(&T) -> bool>(
         Command::PopIf(predicate) => Reply::Popped(heap.pop_if(predicate)),
         Command::Ask(predicate) => Reply::Asked(ask(heap, predicate)),
         Command::Len => Reply::Len(heap.len()),
-        Command::Retain(predicate) => retain(heap, predicate),
+        Command::Retain(predicate) => {
+            heap.retain(predicate);
+            Reply::Done
+        }
         Command::Extend(items) => extend(heap, items),
         Command::Append(other) => append(heap, other),
         Command::Reserve(additional) => reserve(heap, additional),
@@ -266,18 +269,6 @@ fn ask<T: Ord, const D: usize, F: FnOnce(&T) -> bool>(
     ensures ordered { IsHeapOrdered T.cmp D heap.now.items }
 {
     Some(predicate(heap.peek()?))
-}
-
-fn retain<T: Ord + Drop, const D: usize, P: FnMut(&T) -> bool>(
-    heap: &mut DaryHeap<T, D>,
-    predicate: P,
-) -> Reply<T, D>
-    requires { IsCallableOn P.FnMut heap.old.items predicate }
-    ensures { Serves T.cmp (CalledAt P.FnMut) D heap.old (machine.Retain predicate)
-        (read.reply result) heap.new }
-{
-    heap.retain(predicate);
-    Reply::Done
 }
 
 fn extend<T: Ord + Drop, const D: usize>(heap: &mut DaryHeap<T, D>, items: Vec<T>) -> Reply<T, D>

@@ -1,6 +1,6 @@
 use Rattle.dary_heap.proofs.Common.{arith, le_refl, refl, zero-le}
 use Rattle.dary_heap.proofs.Fronts.{same_state}
-use Rattle.dary_heap.proofs.run.Serving.{asks, callable_on_front, pops_where, serves_emptied, serves_same}
+use Rattle.dary_heap.proofs.run.Serving.{asks, callable_on_front, pops_where, retained, serves_emptied, serves_same}
 use Rattle.dary_heap.proofs.run.serve.Goals as goal
 
 pub pop_if-requires : goal.pop_if-requires
@@ -14,7 +14,9 @@ ask-requires g c =
     (assumption, callable_on_front g.P.FnMut c.args.heap.now.items c.in-Ask.predicate callable)
 
 pub retain-requires : goal.retain-requires
-retain-requires g c = (assumption, (assumption, (rw c.in-Retain.is at c.requires) 0 c.in-Retain.predicate (omega arith)))
+retain-requires g c =
+    let callable = (rw c.in-Retain.is at c.requires) 0 c.in-Retain.predicate (omega arith) in
+    (assumption, callable.in_turn c.args.heap.now.items (λ x in'. in'))
 
 pub returns-in-PopIf : goal.returns-in-PopIf
 returns-in-PopIf g c =
@@ -36,7 +38,7 @@ pub returns-in-Len : goal.returns-in-Len
 returns-in-Len g c = let e = c.len.ensures in rw c.in-Len.is (serves_same refl e.ordered (e.len, same_state _ _ refl) tt (le_refl _))
 
 pub returns-in-Retain : goal.returns-in-Retain
-returns-in-Retain g c = rw c.in-Retain.is c.retain.ensures
+returns-in-Retain g c = let e = c.retain.ensures in rw c.in-Retain.is (retained g.met.T.Ord.total _ _ _ e.retained e.ordered)
 
 pub returns-in-Extend : goal.returns-in-Extend
 returns-in-Extend g c = rw c.in-Extend.is (assumption c.extend.ensures)
