@@ -66,4 +66,4 @@ returns g c =
     let items : length c.args.heap.now.items ≡ length old.items = ap (λ (it : Contents g.row.T.Denot). length it.items) (sym begun) in
     let long : length c.loop.taken.items ≡ min c.args.count (length old.items) = omega (arith, c.min-count.ensures, c.len.ensures.len, items, c.loop.taken.ok.0, before.long, c.loop.auto.counter-end, c.loop-test.false) in
     let in_turn = drained_in_turn g.T.Ord.cmp g.met.T.Ord.total c.args.count _ c.loop.taken.items _ before.given (omega (arith, long)) (λ fewer. nil_from_length _ (omega (arith, long, counts.0))) in
-    rw (← begun) (serves_behind c.drop-items.new.self.0 (search (arith, same)) (serves_emptied c.drop-items.ensures.items (in_turn, refl) (record { rises = omega (arith, counts.2, last.rises); within = omega (arith, counts.1.within, last.within) }) tt zero-le))
+    rw (← begun) (serves_behind c.drop-items.new.self.0 (grind (arith, same)) (serves_emptied c.drop-items.ensures.items (in_turn, refl) (record { rises = omega (arith, counts.2, last.rises); within = omega (arith, counts.1.within, last.within) }) tt zero-le))

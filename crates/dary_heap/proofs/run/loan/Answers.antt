@@ -65,8 +65,8 @@ returns g c =
     elim c.match-end.branch [
       | in-Drop w ↦
           let h = w.drop.ensures in
-          rw (w.in-Drop.is, w.popped-is) (put_back (held g c) w.drop.new.self.0 c.match-end.heap (w.heap-is ∙ search (arith, same)) h.ordered g.met.T.Ord.total h.counted h.bag h.first)
+          rw (w.in-Drop.is, w.popped-is) (put_back (held g c) w.drop.new.self.0 c.match-end.heap (w.heap-is ∙ grind (arith, same)) h.ordered g.met.T.Ord.total h.counted h.bag h.first)
       | in-Pop w ↦
           let h = w.pop.ensures in
-          rw (w.in-Pop.is, w.popped-is) (taken_out (held g c) w.pop.new.this.0 c.match-end.heap (w.heap-is ∙ search (arith, same)) h.ordered g.met.T.Ord.total w.pop.result h.counted h.first h.bag)
+          rw (w.in-Pop.is, w.popped-is) (taken_out (held g c) w.pop.new.this.0 c.match-end.heap (w.heap-is ∙ grind (arith, same)) h.ordered g.met.T.Ord.total w.pop.result h.counted h.first h.bag)
     ]
