@@ -1,8 +1,7 @@
 //! The heap. `RULES.md` has the rules that its calls follow.
 //!
-//! A clause sees a heap as its `Contents`: its items in the order in which they are stored, how
-//! many there is room for, and how many comparisons it made. The slice is always heap ordered, so
-//! its first item is a greatest one.
+//! A clause sees a heap as its `Contents`: its items in the order in which they are stored, how many there is room
+//! for, and how many comparisons it made. The slice is always heap ordered, so its first item is a greatest one.
 ghost use Rattle.std.specs.Prelude.{◌≡◌, ◌+◌, ◌-◌, ◌<◌, ◌≤◌, ◌↔◌, [], ◌∷◌, ℕ, length, slice_get, vec_capacity, Some, IsSome, IfSome, IfNone, OnOk, OnErr, IfErr, IsOk, is_ok, if◌then◌else◌, ◌==◌};
 ghost use Rattle.std.specs.BinaryHeap.{IsUpperBound};
 ghost use Rattle.std.specs.Option.{option_copied};
@@ -21,8 +20,7 @@ mod convert;
 mod filter;
 mod join;
 
-/// A priority queue. [`pop`](DaryHeap::pop) returns a greatest item: one that no other is strictly
-/// greater than.
+/// A priority queue. [`pop`](DaryHeap::pop) returns a greatest item: one that no other is strictly greater than.
 ///
 /// The items lie in one vector, read as a tree in which each place has up to `D` children. The
 /// [page of the crate](crate) says which arity to take and what each call costs. `D` can't be
@@ -221,10 +219,9 @@ impl<T: Ord, const D: usize> DaryHeap<T, D> {
 
     /// Adds an item.
     ///
-    /// If the heap was empty, or the item is strictly greater than the one that
-    /// [`peek`](DaryHeap::peek) returned, `peek` returns the new item from then on. Otherwise it
-    /// returns the same item as before. A push takes at most as many comparisons as the new place
-    /// is deep, which is *O*(log *n*) from arity 2 on.
+    /// If the heap was empty, or the item is strictly greater than the one that [`peek`](DaryHeap::peek) returned,
+    /// `peek` returns the new item from then on. Otherwise it returns the same item as before. A push takes at most
+    /// as many comparisons as the new place is deep, which is *O*(log *n*) from arity 2 on.
     ///
     /// # Errors
     ///

@@ -1,5 +1,4 @@
-//! Iterators over the items of a heap, in the order in which they are stored or in descending
-//! order.
+//! Iterators over the items of a heap, in the order in which they are stored or in descending order.
 //!
 //! | iterator | returned by | items | order |
 //! |---|---|---|---|

@@ -1,9 +1,8 @@
 //! A priority queue of any arity: a heap in one vector, in which each place has up to `D` children.
 //!
-//! [`DaryHeap::pop`] returns a greatest item, and nothing is lost or doubled. Names and behaviour
-//! are those of Rust's crate `dary_heap`, which follows std's `BinaryHeap`. What takes memory takes
-//! an allocator or keeps the one that it was made with, and returns a `Result`. `CALLING.md` has a
-//! first caller with a proof.
+//! [`DaryHeap::pop`] returns a greatest item, and nothing is lost or doubled. Names and behaviour are those of
+//! Rust's crate `dary_heap`, which follows std's `BinaryHeap`. What takes memory takes an allocator or keeps the
+//! one that it was made with, and returns a `Result`. `CALLING.md` has a first caller with a proof.
 //!
 //! ```
 //! use dary_heap::TernaryHeap;
@@ -15,16 +14,14 @@
 //! assert_eq!(rt; heap.len(), 1);
 //! ```
 //!
-//! Each example of these pages is run as a test: `rt` is the test's `HostRuntime`, and `alloc` is
-//! `rt.alloc()`.
+//! Each example of these pages is run as a test: `rt` is the test's `HostRuntime`, and `alloc` is `rt.alloc()`.
 //!
 //! # Arities
 //!
-//! The arities from 2 to 8 have names: [`BinaryHeap`], [`TernaryHeap`], [`QuaternaryHeap`],
-//! [`QuinaryHeap`], [`SenaryHeap`], [`SeptenaryHeap`] and [`OctonaryHeap`]. Any other is written
-//! `DaryHeap<T, D>`. Arity 1 keeps a sorted vector, and arity 0 acts as arity 1. A greater arity
-//! makes the tree flatter: a push takes fewer comparisons, a pop more. This table comes from
-//! measurements:
+//! The arities from 2 to 8 have names: [`BinaryHeap`], [`TernaryHeap`], [`QuaternaryHeap`], [`QuinaryHeap`],
+//! [`SenaryHeap`], [`SeptenaryHeap`] and [`OctonaryHeap`]. Any other is written `DaryHeap<T, D>`. Arity 1 keeps a
+//! sorted vector, and arity 0 acts as arity 1. A greater arity makes the tree flatter: a push takes fewer
+//! comparisons, a pop more. This table comes from measurements:
 //!
 //! | use | arity |
 //! |---|---|
@@ -54,10 +51,9 @@
 //!
 //! # Modules
 //!
-//! From the bottom up: [`sift`] moves items along the paths of the tree, by a
-//! [`Judge`](sift::Judge) that compares items and counts; [`heap`] has the heap, [`peek_mut`] its
-//! greatest item for reading and writing, and [`iter`] its iterators; [`run`] carries out lists of
-//! commands, and [`shortest_path`] searches a graph.
+//! From the bottom up: [`sift`] moves items along the paths of the tree, by a [`Judge`](sift::Judge) that compares
+//! items and counts; [`heap`] has the heap, [`peek_mut`] its greatest item for reading and writing, and [`iter`]
+//! its iterators; [`run`] carries out lists of commands, and [`shortest_path`] searches a graph.
 #![tactic(auto)]
 
 pub mod heap;

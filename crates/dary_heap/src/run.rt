@@ -52,8 +52,7 @@ pub enum Command<T: Ord, const D: usize, P> {
     Push(T),
     /// Removes a greatest item.
     Pop,
-    /// Removes a greatest item, the one that a pop would remove, if the predicate returns `true`
-    /// for it.
+    /// Removes a greatest item, the one that a pop would remove, if the predicate returns `true` for it.
     PopIf(P),
     /// Asks the predicate about a greatest item, the one that a pop would remove.
     Ask(P),
@@ -94,8 +93,7 @@ pub enum Reply<T: Ord, const D: usize> {
     Len(usize),
     /// The command was carried out.
     Done,
-    /// Memory allocation failed for one of the items. Those before it were added, the others
-    /// dropped.
+    /// Memory allocation failed for one of the items. Those before it were added, the others dropped.
     ExtendRefused,
     /// Memory allocation failed. This is the other heap, as it was.
     AppendRefused(DaryHeap<T, D>),
@@ -103,8 +101,7 @@ pub enum Reply<T: Ord, const D: usize> {
     Refused,
     /// The items that were asked for.
     Taken(Vec<T>),
-    /// What the acts showed, in order, and the item if it was removed at the end; `None` if the
-    /// heap was empty.
+    /// What the acts showed, in order, and the item if it was removed at the end; `None` if the heap was empty.
     Loaned(Option<(Vec<Seen<T>>, Option<T>)>),
 }
 
@@ -113,11 +110,10 @@ pub enum Reply<T: Ord, const D: usize> {
 /// The replies and the items are a run of the bag machine. Its front is the first item of
 /// [`as_slice`](DaryHeap::as_slice), at the start and at the end.
 ///
-/// If there is room for `n` items at the start, or after a [`Command::Reserve`] of `n` that was
-/// carried out, the next `n` pushes succeed if only pushes, pops, `Ask` and `Len` come between. If
-/// nothing else comes at all, there is room for the rest of them afterwards. A drain and a loan
-/// reserve room for their reply before they begin. On an empty heap they never fail, nor does a
-/// drain of no items or a loan without acts.
+/// If there is room for `n` items at the start, or after a [`Command::Reserve`] of `n` that was carried out, the
+/// next `n` pushes succeed if only pushes, pops, `Ask` and `Len` come between. If nothing else comes at all, there
+/// is room for the rest of them afterwards. A drain and a loan reserve room for their reply before they begin. On
+/// an empty heap they never fail, nor does a drain of no items or a loan without acts.
 ///
 /// # Preconditions
 ///
@@ -154,10 +150,9 @@ pub enum Reply<T: Ord, const D: usize> {
 ///
 /// # Time
 ///
-/// At most the sum of the comparisons that the commands' calls may take. A [`Command::Retain`] counts
-/// as [`mend_with`](crate::sift::mend_with) of all items that are left, a [`Command::DrainSorted`] as
-/// pops of all items, and a [`Command::Loan`] as the arity times the depth of the last place, for the
-/// end and for each refresh.
+/// At most the sum of the comparisons that the commands' calls may take. A [`Command::Retain`] counts as
+/// [`mend_with`](crate::sift::mend_with) of all items that are left, a [`Command::DrainSorted`] as pops of all
+/// items, and a [`Command::Loan`] as the arity times the depth of the last place, for the end and for each refresh.
 pub fn run<T: Ord + Drop, const D: usize, P: FnMut(&T) -> bool>(
     alloc: Global,
     heap: &mut DaryHeap<T, D>,
@@ -255,8 +250,7 @@ fn pop<T: Ord, const D: usize>(heap: &mut DaryHeap<T, D>) -> Reply<T, D>
     Reply::Popped(heap.pop())
 }
 
-/// Returns what the predicate returns for the front, if there is one. As an `FnOnce` it is called once at
-/// most.
+/// Returns what the predicate returns for the front, if there is one. As an `FnOnce` it is called once at most.
 fn ask<T: Ord, const D: usize, F: FnOnce(&T) -> bool>(
     heap: &DaryHeap<T, D>,
     predicate: F,

@@ -108,12 +108,11 @@ pub enum PathRefusal {
 /// for each node, or for the heap of the states that were pushed and not popped yet. Those are
 /// never more than the edges of the graph, and one.
 ///
-/// Returns [`PathRefusal::CostTooLarge`] if costs get too large for a `usize`. Call a node other
-/// than the goal that a walk reaches *critical* if its least cost, with what one of its edges
-/// costs, comes to `usize::MAX` or more. If some critical node's least cost is below that of every
-/// walk to the goal, the call fails. With this error it fails only if some critical node's least
-/// cost is at most that of every walk to the goal. So an edge that costs too much doesn't matter if
-/// the node that it leaves is dearer to reach than the goal.
+/// Returns [`PathRefusal::CostTooLarge`] if costs get too large for a `usize`. Call a node other than the goal that
+/// a walk reaches *critical* if its least cost, with what one of its edges costs, comes to `usize::MAX` or more. If
+/// some critical node's least cost is below that of every walk to the goal, the call fails. With this error it
+/// fails only if some critical node's least cost is at most that of every walk to the goal. So an edge that costs
+/// too much doesn't matter if the node that it leaves is dearer to reach than the goal.
 ///
 /// # Examples
 ///
@@ -157,8 +156,7 @@ pub fn shortest_path(
     search(alloc, adj_list, start, goal, &mut heap, &mut work)
 }
 
-/// The search itself, with the states that wait in this heap, which is empty, and with an account of its
-/// work.
+/// The search itself, with the states that wait in this heap, which is empty, and with an account of its work.
 fn search(
     alloc: Global,
     adj_list: &Vec<Vec<Edge>>,

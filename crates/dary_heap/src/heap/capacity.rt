@@ -35,8 +35,7 @@ impl<T: Ord, const D: usize> DaryHeap<T, D> {
 
     /// Reserves room for at least `additional` more items. Makes no comparison.
     ///
-    /// After `Ok` that many pushes allocate no memory, and don't fail. If there is room already, it
-    /// does nothing.
+    /// After `Ok` that many pushes allocate no memory, and don't fail. If there is room already, it does nothing.
     ///
     /// # Errors
     ///

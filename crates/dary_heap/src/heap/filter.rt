@@ -15,10 +15,9 @@ use crate::sift::{ByOrd, mend_with};
 impl<T: Ord, const D: usize> DaryHeap<T, D> {
     /// Removes a greatest item and returns it, if the predicate returns `true` for it.
     ///
-    /// The predicate is called once, on the item that [`peek`](DaryHeap::peek) returns, and not at
-    /// all on an empty heap. If it returns `false`, or the heap is empty, the call returns `None`
-    /// and nothing changes. It takes at most as many comparisons as a [`pop`](DaryHeap::pop), and
-    /// none if it returns `None`.
+    /// The predicate is called once, on the item that [`peek`](DaryHeap::peek) returns, and not at all on an empty
+    /// heap. If it returns `false`, or the heap is empty, the call returns `None` and nothing changes. It takes at
+    /// most as many comparisons as a [`pop`](DaryHeap::pop), and none if it returns `None`.
     ///
     /// # Preconditions
     ///
@@ -60,11 +59,10 @@ impl<T: Ord, const D: usize> DaryHeap<T, D> {
 
     /// Keeps the items for which the predicate returns `true`, and drops the others.
     ///
-    /// The predicate is called once for each item, in the order of
-    /// [`as_slice`](DaryHeap::as_slice). If it returns `true` for all, nothing changes. The
-    /// capacity stays the same. The call takes as many comparisons as
-    /// [`mend_with`](crate::sift::mend_with) of the kept items from the first removed place on, and
-    /// none if none is removed.
+    /// The predicate is called once for each item, in the order of [`as_slice`](DaryHeap::as_slice). If it returns
+    /// `true` for all, nothing changes. The capacity stays the same. The call takes as many comparisons as
+    /// [`mend_with`](crate::sift::mend_with) of the kept items from the first removed place on, and none if none is
+    /// removed.
     ///
     /// # Preconditions
     ///

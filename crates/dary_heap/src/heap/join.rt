@@ -17,11 +17,10 @@ use std::mem;
 impl<T: Ord, const D: usize> DaryHeap<T, D> {
     /// Moves all items of `other` into this heap, and leaves `other` empty.
     ///
-    /// The items of the shorter heap go behind those of the longer one: if `other` is the longer,
-    /// the two exchange their vectors first, and so their capacities. If `other` is empty, this
-    /// heap's slice stays as it is. This heap makes as many comparisons as
-    /// [`mend_with`](crate::sift::mend_with) of as many items as the shorter heap has, and `other`
-    /// makes none.
+    /// The items of the shorter heap go behind those of the longer one: if `other` is the longer, the two exchange
+    /// their vectors first, and so their capacities. If `other` is empty, this heap's slice stays as it is. This
+    /// heap makes as many comparisons as [`mend_with`](crate::sift::mend_with) of as many items as the shorter heap
+    /// has, and `other` makes none.
     ///
     /// # Errors
     ///
@@ -244,8 +243,7 @@ impl<T: Ord + Drop, const D: usize> Extend<T> for DaryHeap<T, D> {
     }
 }
 
-/// Adds copies of the items whose references the iterator gives. All else is as for the items
-/// themselves.
+/// Adds copies of the items whose references the iterator gives. All else is as for the items themselves.
 ///
 /// # Examples
 ///

@@ -1,9 +1,8 @@
 //! What holds the items of a `PeekMut`.
 ghost use Rattle.std.specs.Prelude.{◌≡◌, ℕ, List, vec_capacity};
 
-/// What holds the items of a [`PeekMut`](crate::peek_mut::PeekMut). `Vec` is the one type that
-/// implements it: what a `drop` leaves behind a reference can be said only if the other fields are
-/// of a type parameter.
+/// What holds the items of a [`PeekMut`](crate::peek_mut::PeekMut). `Vec` is the one type that implements it: what
+/// a `drop` leaves behind a reference can be said only if the other fields are of a type parameter.
 pub trait Held<T> {
     ghost list: { Self → List T };
 

@@ -66,9 +66,8 @@ impl<T: Ord, const D: usize> DaryHeap<T, D> {
 impl<'a, T: Ord + Drop, const D: usize> PeekMut<'a, T, D> {
     /// Removes the item from the heap and returns it.
     ///
-    /// The value is the one that was written last, even if another item is strictly greater. The
-    /// heap's capacity stays the same. The call takes at most as many comparisons as a
-    /// [`pop`](DaryHeap::pop) of the heap.
+    /// The value is the one that was written last, even if another item is strictly greater. The heap's capacity
+    /// stays the same. The call takes at most as many comparisons as a [`pop`](DaryHeap::pop) of the heap.
     ///
     /// # Examples
     ///
@@ -104,8 +103,7 @@ impl<'a, T: Ord + Drop, const D: usize> PeekMut<'a, T, D> {
         item
     }
 
-    /// Lets a written item go down to its place, and returns `true` if another item was strictly
-    /// greater.
+    /// Lets a written item go down to its place, and returns `true` if another item was strictly greater.
     ///
     /// Afterwards the `PeekMut` is of the item that is now the first, which no other exceeds, and
     /// counts as unwritten. If it returns `false` no item has moved. It takes as many comparisons
@@ -154,8 +152,7 @@ impl<'a, T: Ord + Drop, const D: usize> PeekMut<'a, T, D> {
     }
 }
 
-/// Returns the item: the heap's first one at the start, and then what was written last. Makes no
-/// comparison.
+/// Returns the item: the heap's first one at the start, and then what was written last. Makes no comparison.
 ///
 /// # Examples
 ///

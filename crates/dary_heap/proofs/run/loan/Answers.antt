@@ -1,4 +1,4 @@
-use Rattle.dary_heap.proofs.Common.{◌≡◌, ◌++◌, ◌∷◌, [], length, refl, sym, ap, ◌∙◌, arith, append_assoc, append-nil, length-append, slice_set, map-append, length-map, nil_from_length, into_iter_items, eqb-false, eqb-true, loaned, pos_of_ne-zero, true≢false, zero-le}
+use Rattle.dary_heap.proofs.Common.{◌≡◌, ◌++◌, ◌∷◌, [], length, refl, sym, ap, ◌∙◌, arith, append_assoc, append-nil, length-append, slice_set, map-append, length-map, nil_from_length, into_iter_items, eqb-false, eqb-true, loaned, true≢false, zero-le}
 use Rattle.dary_heap.specs.Reading as read
 use Rattle.dary_heap.proofs.Fronts.{same_state}
 use Rattle.dary_heap.proofs.run.Serving.{serves_same}

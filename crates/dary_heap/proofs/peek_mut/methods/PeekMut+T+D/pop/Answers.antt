@@ -8,4 +8,4 @@ pub returns-clause-first : goal.returns-clause-first
 returns-clause-first g c = rw c.unwrap-item.ensures at c.pop_with.ensures.first
 
 pub returns-clause-value : goal.returns-clause-value
-returns-clause-value g c = sym (get_or_from_slice_get _ 0 _ _ (returns-clause-first g c))
+returns-clause-value g c = sym (get_or_from_slice_get _ 0 _ _ (rw c.unwrap-item.ensures at c.pop_with.ensures.first))
