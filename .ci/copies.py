@@ -67,7 +67,7 @@ class Copies:
         for it in below:
             self.proofs[it].result()
         print(f"{crate}: proving the crate itself", flush=True)
-        status, said = rt(self.tree / "crates" / crate, "check", *(["--jobs", "1"] if below else []))
+        status, said = rt(self.tree / "crates" / crate, "check", "--jobs", "1" if below else "2")
         if status:
             raise SystemExit("\n".join([f"{crate} is not proved:", *[it for it in said if re.search("error|not proved", it)], said[-1]]))
         # (a crate above may add to the folders of those below it)

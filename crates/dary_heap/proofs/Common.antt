@@ -3,7 +3,7 @@ pub use borrow.Author.Tests.{eqb-false, eqb-true, ltb-true}
 pub use denote.Ref.{Bor}
 pub use mathlib.Core.Bool.{◌&&◌}
 pub use mir.Val.{bool_byte}
-pub use Rattle.std.proofs.Common.{All, Bool, Contains, Err, IfNone, IfSome, IsPermutation, IsSome, IsTrue, List, None, Ok, Option, Result, Some, Vec, [], add-one, ap, append-nil, append_assoc, arith, drop, false, get_or, get_or-set_other, get_or-set_same, if◌then◌else◌, inl, inr, is_some, le_refl, length, length-append, length-set, length-take, lit<, map, min, nat_eq, nat_lt, pos_of_ne-zero, refl, replicate, rules, set, slice_get, slice_set, subst, suc, sum, sym, take, true, vec_capacity, vec_len, zero, zero-le, ℕ, ◌*◌, ◌++◌, ◌+◌, ◌-◌, ◌/◌, ◌<◌, ◌^◌, ◌↔◌, ◌∙◌, ◌∷◌, ◌≡◌, ◌≢◌, ◌≤◌, ◌⊎◌}
+pub use Rattle.std.proofs.Common.{All, Bool, Contains, Err, IfNone, IfSome, IsPermutation, IsSome, IsTrue, List, None, Ok, Option, Result, Some, Vec, [], add-one, ap, append-nil, append_assoc, arith, drop, false, get_or, get_or-set_other, get_or-set_same, if◌then◌else◌, inl, inr, is_some, le_refl, length, length-append, length-set, length-take, lit<, map, min, nat_eq, nat_lt, refl, replicate, rules, set, slice_get, slice_set, subst, suc, sum, sym, take, true, vec_capacity, vec_len, zero, zero-le, ℕ, ◌*◌, ◌++◌, ◌+◌, ◌-◌, ◌/◌, ◌<◌, ◌^◌, ◌↔◌, ◌∙◌, ◌∷◌, ◌≡◌, ◌≢◌, ◌≤◌, ◌⊎◌}
 pub use Rattle.std.proofs.Math.Nat.{div-le_self, div-mul-le_self, lt-div-mul-add, mul-le-mul_left, mul-le-mul_right, pow-succ'}
 pub use Rattle.std.proofs.iter.Next.{Gave-then, Ran, Yields-more, again, begun, drained, if_no, if_yes, less, said}
 pub use Rattle.std.proofs.lemmas.Bool.{cases_eq, cases_lt, ne_eqb, true≢false}
