@@ -68,13 +68,10 @@ module _ {P : Type 0} (calls : P → ℤ → Bool → P → Type 0) (means : ℤ
 
   run_on : (old : List ℤ) (cs : List (Command ℤ P)) (bs : List (Command ℤ ℤ)) (replies : List (Reply ℤ)) (states : List (List ℤ)) → Pairs cs bs → Steps int_cmp calls old cs replies states → Steps int_cmp AsksAtLeast old bs replies states
   run_on old [] [] [] [] pairs h = tt
-  run_on old [] [] [] (s ∷ ss) pairs h = absurd h
-  run_on old [] [] (r ∷ rs) states pairs h = absurd h
   run_on old [] (b ∷ bs) replies states pairs h = absurd pairs
   run_on old (c ∷ cs) [] replies states pairs h = absurd pairs
-  run_on old (c ∷ cs) (b ∷ bs) [] states pairs h = absurd h
-  run_on old (c ∷ cs) (b ∷ bs) (r ∷ rs) [] pairs h = absurd h
   run_on old (c ∷ cs) (b ∷ bs) (r ∷ rs) (s ∷ ss) pairs h = (pairs.0 old r s h.0, run_on s cs bs rs ss pairs.1 h.1)
+  run_on old cs bs replies states pairs h = absurd h
 
 -- what a call of `run` on an empty heap ensures, with the law last, and the replies as they are handed on
 pub may_print_by : {P : Type 0} {calls : Mut P (Bor ℤ × Unit {0}) Bool} {means : ℤ → P → Type 0} {D : ℕ} {old new : Contents ℤ} {commands : List (Command ℤ P)} {replies shown : List (Reply ℤ)} (script : List ℕ) (lines : List Line)

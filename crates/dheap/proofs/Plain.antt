@@ -74,11 +74,7 @@ minus_number script signed after word rest size n space minus ends digits value 
 
 pub four : (name : List ℕ) (a b c d : ℕ) → length name ≡ 4 → get_or name 0 0 ≡ a → get_or name 1 0 ≡ b → get_or name 2 0 ≡ c → get_or name 3 0 ≡ d → name ≡ a ∷ b ∷ c ∷ d ∷ []
 four (w ∷ x ∷ y ∷ z ∷ []) a b c d len e f g h = rw (e, f, g, h) refl
-four [] a b c d len e f g h = absurd (omega (arith, len))
-four (w ∷ []) a b c d len e f g h = absurd (omega (arith, len))
-four (w ∷ x ∷ []) a b c d len e f g h = absurd (omega (arith, len))
-four (w ∷ x ∷ y ∷ []) a b c d len e f g h = absurd (omega (arith, len))
-four (w ∷ x ∷ y ∷ z ∷ v ∷ vs) a b c d len e f g h = absurd (omega (arith, len))
+four name a b c d len e f g h = absurd (omega (arith, len))
 
 -- the first four bytes and the others
 pub script_begins : (script name after word : List ℕ) → (name ≡ take 4 script) × (after ≡ drop 4 script) × (length after + 4 ≡ length script) → name ≡ word → script ≡ word ++ after
@@ -87,18 +83,14 @@ script_begins script name after word (first, later, _) named = sym (take-append-
 -- the lines that have a number
 module _ (script after word rest : List ℕ) (n : ℤ) (ends : after ≡ 32 ∷ word ++ 10 ∷ rest) (is : IsNumber word) (value : n ≡ signed_digits_value 10 word) where
   pub push_line : script ≡ codes "push" ++ after → IsFirstLine script (Push n) rest
-  push_line first = (
-    112 ∷ 117 ∷ 115 ∷ 104 ∷ 32 ∷ word,
-    ap lines_of (first ∙ ap (λ xs. codes "push" ++ xs) ends) ∙ ap (λ ls. onto_first 112 (onto_first 117 (onto_first 115 (onto_first 104 (onto_first 32 ls))))) (number_line word rest is),
-    (word, ap (λ ws. codes "push" ∷ ws) (only_word word rest is), is, value),
-  )
+  push_line first =
+      let lines = ap lines_of (first ∙ ap (λ xs. codes "push" ++ xs) ends) ∙ ap (λ ls. onto_first 112 (onto_first 117 (onto_first 115 (onto_first 104 (onto_first 32 ls))))) (number_line word rest is) in
+      (112 ∷ 117 ∷ 115 ∷ 104 ∷ 32 ∷ word, lines, (word, ap (λ ws. codes "push" ∷ ws) (only_word word rest is), is, value))
 
   pub test_line : script ≡ codes "test" ++ after → IsFirstLine script (Test n) rest
-  test_line first = (
-    116 ∷ 101 ∷ 115 ∷ 116 ∷ 32 ∷ word,
-    ap lines_of (first ∙ ap (λ xs. codes "test" ++ xs) ends) ∙ ap (λ ls. onto_first 116 (onto_first 101 (onto_first 115 (onto_first 116 (onto_first 32 ls))))) (number_line word rest is),
-    (word, ap (λ ws. codes "test" ∷ ws) (only_word word rest is), is, value),
-  )
+  test_line first =
+      let lines = ap lines_of (first ∙ ap (λ xs. codes "test" ++ xs) ends) ∙ ap (λ ls. onto_first 116 (onto_first 101 (onto_first 115 (onto_first 116 (onto_first 32 ls))))) (number_line word rest is) in
+      (116 ∷ 101 ∷ 115 ∷ 116 ∷ 32 ∷ word, lines, (word, ap (λ ws. codes "test" ∷ ws) (only_word word rest is), is, value))
 
 -- the lines that have none
 pub pop_line : (script rest : List ℕ) → script ≡ codes "pop\n" ++ rest → IsFirstLine script Pop rest

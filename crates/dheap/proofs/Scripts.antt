@@ -17,9 +17,8 @@ module _ {X : Type 0} (p : X → Bool) where
 
 pub Say-append : (xs ys : List (List ℕ)) (ls ms : List Line) → Say xs ls → Say ys ms → Say (xs ++ ys) (ls ++ ms)
 Say-append [] ys [] ms h k = k
-Say-append [] ys (l ∷ ls) ms h k = absurd h
-Say-append (x ∷ xs) ys [] ms h k = absurd h
 Say-append (x ∷ xs) ys (l ∷ ls) ms h k = (h.0, Say-append xs ys ls ms h.1 k)
+Say-append xs ys ls ms h k = absurd h
 
 module _ {P : Type 0} (means : ℤ → P → Type 0) where
   pub CarryOut-more : (commands more all : List (Command ℤ P)) (lines : List Line) (line : Line) → CarryOut means commands lines → CarryOutLine means more line → all ≡ commands ++ more → CarryOut means all (lines ++ line ∷ [])

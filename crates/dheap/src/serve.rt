@@ -99,16 +99,7 @@ fn answer_all<R: Read, W: Write>(
     };
     let mut script = Vec::new(alloc);
     input.read_to_end(&mut script)?;
-    match arity {
-        1 => answer::<W, 1>(alloc, script, output),
-        2 => answer::<W, 2>(alloc, script, output),
-        3 => answer::<W, 3>(alloc, script, output),
-        4 => answer::<W, 4>(alloc, script, output),
-        5 => answer::<W, 5>(alloc, script, output),
-        6 => answer::<W, 6>(alloc, script, output),
-        7 => answer::<W, 7>(alloc, script, output),
-        _ => answer::<W, 8>(alloc, script, output),
-    }
+    answer_at(arity, alloc, script, output)
 }
 
 /// The arity that the arguments name, if they are one digit from `1` to `8`.
@@ -122,6 +113,33 @@ fn arity(words: &[String]) -> Option<u8>
     match word.as_bytes() {
         [digit @ b'1'..=b'8'] => Some(*digit - b'0'),
         _ => None,
+    }
+}
+
+/// Runs the commands of a script on a new heap of this arity, and writes the answers.
+fn answer_at<W: Write>(
+    arity: u8,
+    alloc: Global,
+    script: Vec<u8>,
+    output: &mut W,
+) -> Result<(), Fault>
+    ensures usage { IfErr result (λ fault. status_of fault ≢ 2) }
+    ensures bad { IfErr result (λ fault. status_of fault ≡ 1 → (number : ℕ)
+        × (fault ≡ BadLine number) × IsFirstBad (lines_of script.items) number) }
+    ensures printed { OnOk result ((printed : List ℕ) × MayPrint script.items printed
+        × Appends (W.contents output.old) (W.contents output.new) printed) }
+    ensures silent { IfErr result
+        (λ fault. status_of fault < 3 → Keeps (W.contents output.old) (W.contents output.new)) }
+{
+    match arity {
+        1 => answer::<W, 1>(alloc, script, output),
+        2 => answer::<W, 2>(alloc, script, output),
+        3 => answer::<W, 3>(alloc, script, output),
+        4 => answer::<W, 4>(alloc, script, output),
+        5 => answer::<W, 5>(alloc, script, output),
+        6 => answer::<W, 6>(alloc, script, output),
+        7 => answer::<W, 7>(alloc, script, output),
+        _ => answer::<W, 8>(alloc, script, output),
     }
 }
 

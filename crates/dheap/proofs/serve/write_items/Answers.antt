@@ -18,12 +18,3 @@ loop-item-preserved c =
     let written : c.write_item.new.held.items ≡ l.held.items ++ spaced item = search rules in
     written ∙ ap (λ xs. xs ++ spaced item) l.invariant ∙ flat_map_more spaced c.args.held.now.items (take l.item-index others) item
     ∙ ap (λ xs. c.args.held.now.items ++ flat_map spaced xs) (sym (take_more others l.item-index (pos 0) c.loop-item-test.true))
-
-pub loop-item-init : goal.loop-item-init
-loop-item-init c = search rules
-
-pub returns-in_default : goal.returns-in_default
-returns-in_default c = search rules
-
-pub returns-in_err-write_item : goal.returns-in_err-write_item
-returns-in_err-write_item c = search rules
