@@ -142,7 +142,7 @@ if $has_cpp; then
     "$room/beside" || fail 'beside.cpp found wrong answers'
 fi
 
-sanitizers=(-fsanitize=address,undefined -fno-sanitize-recover=all -g)
+sanitizers=('-fsanitize=address,undefined' -fno-sanitize-recover=all -g)
 if printf 'int main(void) { return 0; }\n' | "${compiler[@]}" "${sanitizers[@]}" -x c -o "$room/plain" - 2> "$room/printed" && "$room/plain"; then
     show_all "${sanitizers[@]}"
     compile answers_checked answers.c "${sanitizers[@]}"
