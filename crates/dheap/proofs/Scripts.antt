@@ -1,7 +1,7 @@
 -- How a script is read, line by line.
 use Rattle.dheap.proofs.Common.{◌≡◌, ◌+◌, ◌<◌, ◌≤◌, ℕ, ℤ, suc, zero, Bool, true, false, List, [], ◌∷◌, ◌++◌, length, take, drop, Option, None, Some, IfSome, refl, sym, ap, ◌∙◌, append_assoc, append-nil, arith, slice_split, onto_first, AllWithin, HoldsAt, slice_split-cons_yes, slice_split-cons_no, length-slice_split, slice_split_none, All-from_all_within, Command, Say, CarryOut, CarryOutLine, IsFirstBad, lines_of, Fault, Line}
 use Rattle.std.proofs.lemmas.List.Sums.{count_by-le-length}
-use Rattle.dheap.specs.declared.serve.fault.Fault.TheVariants.{BadLine}
+use Rattle.dheap.specs.Faults.{TellsFirstBad}
 
 module _ {X : Type 0} (p : X → Bool) where
   -- where the first element that passes stands
@@ -31,6 +31,6 @@ pub few_lines : {X : Type 0} (p : X → Bool) (xs : List X) → length (slice_sp
 few_lines p xs = omega (arith, length-slice_split p xs, count_by-le-length p xs)
 
 -- that some line is the first bad one, without its fault
-pub first_bad : (fault : Fault) (known : Option (List ℕ)) → IfSome known (λ script. (number : ℕ) × (fault ≡ BadLine number) × IsFirstBad (lines_of script) number) → IfSome known (λ script. (number : ℕ) × IsFirstBad (lines_of script) number)
+pub first_bad : (fault : Fault) (known : Option (List ℕ)) → IfSome known (λ script. TellsFirstBad script fault) → IfSome known (λ script. (number : ℕ) × IsFirstBad (lines_of script) number)
 first_bad fault None h = tt
 first_bad fault (Some script) h = (h.0, h.2)

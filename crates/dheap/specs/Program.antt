@@ -1,5 +1,6 @@
 -- What a run of the program prints.
-use Rattle.std.specs.Prelude.{◌≡◌, ℕ, ℤ, int_le, Bool, true, List, [], All, is_some}
+use Rattle.std.specs.Prelude.{◌≡◌, ℕ, ℤ, int_le, Bool, true, List, [], Option, All, is_some}
+use Rattle.std.specs.Io.KnownBytes.{Appends}
 use Rattle.std.specs.Ordering.{int_cmp}
 use Rattle.dary_heap.specs.Machine.{Command, Reply, Steps}
 use Rattle.dheap.specs.Answers.{answer, text}
@@ -15,3 +16,7 @@ abbrev pub MayPrint : List ℕ → List ℕ → Type 0
 MayPrint script printed = (lines : List Line) × (commands : List (Command ℤ ℤ)) × (replies : List (Reply ℤ)) × (states : List (List ℤ))
     × Say (lines_of script) lines × CarryOut (λ n bound. bound ≡ n) commands lines × Steps int_cmp AsksAtLeast [] commands replies states
     × All (λ reply. is_some (answer reply) ≡ true) replies × (printed ≡ text replies)
+
+-- an output whose bytes are known to be these before and after has got what may be printed for the script
+abbrev pub Prints : List ℕ → Option (List ℕ) → Option (List ℕ) → Type 0
+Prints script before after = (printed : List ℕ) × MayPrint script printed × Appends before after printed

@@ -4,11 +4,10 @@ ghost use Rattle.std.specs.Fmt.{decimal, sign_text, signed_decimal};
 ghost use Rattle.std.specs.Io.KnownBytes.{Appends, Keeps, IsAtEnd};
 ghost use Rattle.dary_heap.specs.Reading as read;
 ghost use Rattle.dheap.specs.Answers.{answer, line, listing, text};
-ghost use Rattle.dheap.specs.Faults.{status_of};
-ghost use Rattle.dheap.specs.Program.{MayPrint};
+ghost use Rattle.dheap.specs.Faults.{TellsFirstBad, status_of};
+ghost use Rattle.dheap.specs.Program.{MayPrint, Prints};
 ghost use Rattle.dheap.specs.Script.{CarryOut, CarryOutLine, IsFirstBad, Say, Says, lines_left, lines_of, words_of};
 ghost use Rattle.dheap.specs.Words.{IsArity};
-ghost use Rattle.dheap.specs.declared.serve.fault.Fault.TheVariants.{BadLine};
 ghost use Rattle.dheap.specs.declared.serve.line.Line.{Line};
 
 pub(crate) mod fault;
@@ -29,16 +28,11 @@ const HELD: usize = 1 << 13;
 const LONGEST: usize = 22;
 
 /// The two digits of each number below 100.
-static PAIRS: [u8; 200] = *b"00010203040506070809\
-    10111213141516171819\
-    20212223242526272829\
-    30313233343536373839\
-    40414243444546474849\
-    50515253545556575859\
-    60616263646566676869\
-    70717273747576777879\
-    80818283848586878889\
-    90919293949596979899";
+static PAIRS: [u8; 200] = *b"0001020304050607080910111213141516171819\
+    2021222324252627282930313233343536373839\
+    4041424344454647484950515253545556575859\
+    6061626364656667686970717273747576777879\
+    8081828384858687888990919293949596979899";
 
 /// Carries out the commands that `input` holds, writes the answers to `output`, and returns the status
 /// that the program ends with.
@@ -66,8 +60,7 @@ pub fn serve<R: Read, W: Write, E: Write>(
     ensures bad { result ≡ 1 → IfSome (R.remaining input.old)
         (λ script. (number : ℕ) × IsFirstBad (lines_of script) number) }
     ensures printed { result ≡ 0 → IfSome (R.remaining input.old)
-        (λ script. (printed : List ℕ) × MayPrint script printed
-        × Appends (W.contents output.old) (W.contents output.new) printed) }
+        (λ script. Prints script (W.contents output.old) (W.contents output.new)) }
 {
     match answer_all(alloc, words, input, output) {
         Ok(()) => 0,
@@ -87,10 +80,9 @@ fn answer_all<R: Read, W: Write>(
     ensures whole { OnOk result (IsAtEnd (R.remaining input.new)) }
     ensures read { IfErr result (λ fault. status_of fault ≡ 1 → IsAtEnd (R.remaining input.new)) }
     ensures bad { IfErr result (λ fault. status_of fault ≡ 1 → IfSome (R.remaining input.old)
-        (λ script. (number : ℕ) × (fault ≡ BadLine number) × IsFirstBad (lines_of script) number)) }
+        (λ script. TellsFirstBad script fault)) }
     ensures printed { OnOk result (IfSome (R.remaining input.old)
-        (λ script. (printed : List ℕ) × MayPrint script printed
-        × Appends (W.contents output.old) (W.contents output.new) printed)) }
+        (λ script. Prints script (W.contents output.old) (W.contents output.new))) }
     ensures silent { IfErr result
         (λ fault. status_of fault < 3 → Keeps (W.contents output.old) (W.contents output.new)) }
 {
@@ -124,10 +116,9 @@ fn answer_at<W: Write>(
     output: &mut W,
 ) -> Result<(), Fault>
     ensures usage { IfErr result (λ fault. status_of fault ≢ 2) }
-    ensures bad { IfErr result (λ fault. status_of fault ≡ 1 → (number : ℕ)
-        × (fault ≡ BadLine number) × IsFirstBad (lines_of script.items) number) }
-    ensures printed { OnOk result ((printed : List ℕ) × MayPrint script.items printed
-        × Appends (W.contents output.old) (W.contents output.new) printed) }
+    ensures bad { IfErr result (λ fault. status_of fault ≡ 1 → TellsFirstBad script.items fault) }
+    ensures printed { OnOk result
+        (Prints script.items (W.contents output.old) (W.contents output.new)) }
     ensures silent { IfErr result
         (λ fault. status_of fault < 3 → Keeps (W.contents output.old) (W.contents output.new)) }
 {
@@ -150,10 +141,9 @@ fn answer<W: Write, const D: usize>(
     output: &mut W,
 ) -> Result<(), Fault>
     ensures usage { IfErr result (λ fault. status_of fault ≢ 2) }
-    ensures bad { IfErr result (λ fault. status_of fault ≡ 1 → (number : ℕ)
-        × (fault ≡ BadLine number) × IsFirstBad (lines_of script.items) number) }
-    ensures printed { OnOk result ((printed : List ℕ) × MayPrint script.items printed
-        × Appends (W.contents output.old) (W.contents output.new) printed) }
+    ensures bad { IfErr result (λ fault. status_of fault ≡ 1 → TellsFirstBad script.items fault) }
+    ensures printed { OnOk result
+        (Prints script.items (W.contents output.old) (W.contents output.new)) }
     ensures silent { IfErr result
         (λ fault. status_of fault < 3 → Keeps (W.contents output.old) (W.contents output.new)) }
 
@@ -186,8 +176,7 @@ fn commands<const D: usize, P: FnMut(&i64) -> bool + Drop, F: Fn(i64) -> P>(
     ensures said { IfOk result (λ commands. (lines : List Line) × Say (lines_of script.now) lines
         × CarryOut (λ n p. F.post at_least n p) (read.commands commands.items) lines) }
     ensures fault { IfErr result (λ fault. (status_of fault ≡ 1) ⊎ (status_of fault ≡ 3)) }
-    ensures bad { IfErr result (λ fault. status_of fault ≡ 1 → (number : ℕ)
-        × (fault ≡ BadLine number) × IsFirstBad (lines_of script.now) number) }
+    ensures bad { IfErr result (λ fault. status_of fault ≡ 1 → TellsFirstBad script.now fault) }
 {
     let mut commands = Vec::new(alloc);
     let mut rest = Some(script);

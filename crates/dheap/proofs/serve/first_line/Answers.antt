@@ -11,4 +11,6 @@ returns-in-Some c =
     ∙ ap (λ rest. take c.in-Some.place c.args.script.now ∷ lines_of rest) (sym (take_rest c.args.script.now (c.in-Some.place + 1)))
 
 pub returns-in-None : goal.returns-in-None
-returns-in-None c = uncut (λ b. b == 10) c.args.script.now (IsFirst-from_position _ _ _ (λ b. (b == 10) ≡ true) (λ b. (b == 10) ≡ false) c.in-None.ensures.ran (YieldsList-from_slice c.args.script.now c.iter.ensures.rest) (λ x q k. search (rules, tests)) (λ x q k. search (rules, tests)))
+returns-in-None c =
+    let first = IsFirst-from_position _ _ _ (λ b. (b == 10) ≡ true) (λ b. (b == 10) ≡ false) c.in-None.ensures.ran (YieldsList-from_slice c.args.script.now c.iter.ensures.rest) (λ x q k. search (rules, tests)) (λ x q k. search (rules, tests)) in
+    uncut (λ b. b == 10) c.args.script.now first
