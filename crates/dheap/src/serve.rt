@@ -1,11 +1,11 @@
 //! One run of the program, over any streams.
-ghost use Rattle.std.specs.Prelude.{◌≡◌, ◌≢◌, ◌⊎◌, ◌+◌, ◌-◌, ◌*◌, ◌/◌, ◌%◌, ◌<◌, ◌≤◌, ◌↔◌, ◌++◌, ◌∷◌, ℕ, List, [], All, map, codes, is_some, option_to_list, string_bytes, true, drop, IfOk, IfSome, IfNone, IfErr, OnOk, MatchOption};
+ghost use Rattle.std.specs.Prelude.{◌≡◌, ◌⊎◌, ◌+◌, ◌-◌, ◌*◌, ◌/◌, ◌%◌, ◌<◌, ◌≤◌, ◌↔◌, ◌++◌, ◌∷◌, ℕ, List, [], All, map, codes, is_some, option_to_list, string_bytes, true, drop, IfOk, IfSome, IfNone, IfErr, OnOk, MatchOption};
 ghost use Rattle.std.specs.Fmt.{decimal, sign_text, signed_decimal};
 ghost use Rattle.std.specs.Io.KnownBytes.{Appends, Keeps, IsAtEnd};
 ghost use Rattle.dary_heap.specs.Reading as read;
 ghost use Rattle.dheap.specs.Answers.{answer, line, listing, text};
 ghost use Rattle.dheap.specs.Faults.{TellsFirstBad, status_of};
-ghost use Rattle.dheap.specs.Program.{MayPrint, Prints};
+ghost use Rattle.dheap.specs.Program.{Fails, MayPrint, Prints};
 ghost use Rattle.dheap.specs.Script.{CarryOut, CarryOutLine, IsFirstBad, Say, Says, lines_left, lines_of, words_of};
 ghost use Rattle.dheap.specs.Words.{IsArity};
 ghost use Rattle.dheap.specs.declared.serve.line.Line.{Line};
@@ -115,12 +115,10 @@ fn answer_at<W: Write>(
     script: Vec<u8>,
     output: &mut W,
 ) -> Result<(), Fault>
-    ensures usage { IfErr result (λ fault. status_of fault ≢ 2) }
-    ensures bad { IfErr result (λ fault. status_of fault ≡ 1 → TellsFirstBad script.items fault) }
+    ensures failed { IfErr result
+        (Fails script.items (W.contents output.old) (W.contents output.new)) }
     ensures printed { OnOk result
         (Prints script.items (W.contents output.old) (W.contents output.new)) }
-    ensures silent { IfErr result
-        (λ fault. status_of fault < 3 → Keeps (W.contents output.old) (W.contents output.new)) }
 {
     match arity {
         1 => answer::<W, 1>(alloc, script, output),
@@ -140,12 +138,10 @@ fn answer<W: Write, const D: usize>(
     script: Vec<u8>,
     output: &mut W,
 ) -> Result<(), Fault>
-    ensures usage { IfErr result (λ fault. status_of fault ≢ 2) }
-    ensures bad { IfErr result (λ fault. status_of fault ≡ 1 → TellsFirstBad script.items fault) }
+    ensures failed { IfErr result
+        (Fails script.items (W.contents output.old) (W.contents output.new)) }
     ensures printed { OnOk result
         (Prints script.items (W.contents output.old) (W.contents output.new)) }
-    ensures silent { IfErr result
-        (λ fault. status_of fault < 3 → Keeps (W.contents output.old) (W.contents output.new)) }
 
     // If the output failed, the whole run went well before.
     ensures ran { IfErr result
