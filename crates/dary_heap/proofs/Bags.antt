@@ -1,9 +1,8 @@
 -- What a bag holds once a value came to it, and which of it is a greatest. A bag from which one was taken is read the other way round. A greatest item bounds the others, in std's word for it.
-use Rattle.dary_heap.proofs.Common.{◌≡◌, ◌≢◌, ◌⊎◌, ◌<◌, List, [], ◌∷◌, ◌++◌, length, Contains, false, Option, Some, None, IfSome, inl, inr, refl, ap, ◌∙◌, subst, arith, Contains-append_right, Contains-append_cases, IsPermutation-sym, Contains-permutation, IsSameBag, front, IsTotalOrder, IsGreatest, AllByRecursion, is_lt, ordering_reverse, Ordering, Less, Equal, Greater}
+use Rattle.dary_heap.proofs.Common.{◌≡◌, ◌≢◌, ◌⊎◌, ◌<◌, List, [], ◌∷◌, ◌++◌, length, Contains, false, Option, Some, None, IfSome, inl, inr, refl, ap, ◌∙◌, subst, arith, Contains-append_right, Contains-append_cases, IsPermutation-sym, Contains-permutation, IsSameBag, front, IsTotalOrder, IsGreatest, AllByRecursion, is_lt, ordering_reverse, Ordering, Less, Equal, Greater, Bor}
 use Rattle.dary_heap.proofs.Fronts.{alone}
 use Rattle.dary_heap.proofs.Order.{not_greater-self, not_greater-trans}
 use Rattle.std.specs.BinaryHeap.{IsUpperBound}
-use Rattle.std.specs.Borrow.{Bor}
 
 -- an item of a list is its first or one of the others
 pub Contains-cases : {X : Type 0} (x : X) (xs : List X) (y : X) → Contains (x ∷ xs) y → (x ≡ y) ⊎ Contains xs y
@@ -88,7 +87,7 @@ by_recursion : {X : Type 0} (P : X → Type 0) (xs : List X) → ((y : X) → Co
 by_recursion P [] h = tt
 by_recursion P (x ∷ xs) h = (h x (Contains-first x xs), by_recursion P xs (λ y in'. h y (Contains-later x xs y in')))
 
--- no item is less than itself
+-- `is_lt` is false of every outcome but `Less`
 pub not_less : (r : Ordering) → r ≢ Less → is_lt r ≡ false
 not_less Less h = absurd (h refl)
 not_less Equal h = refl

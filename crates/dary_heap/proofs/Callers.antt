@@ -10,7 +10,6 @@ use Rattle.std.proofs.lemmas.Cmp.{ranked, by_ranked}
 use Rattle.std.proofs.lemmas.Iterator.{IsCollectResult}
 use Rattle.std.proofs.lemmas.List.Elements.{All-cons, All-map, All-tail}
 use Rattle.std.proofs.lemmas.List.Sorted.{All-permutation, IsPermutation-map, IsPermutation-append_right, IsPermutation-pop_more}
-use Rattle.dary_heap.proofs.iter.Popping.{pops_give}
 use Rattle.std.proofs.lemmas.Iterator.Adapters.{YieldsAtMost}
 use Rattle.std.specs.BinaryHeap.{IsHeap}
 use Rattle.dary_heap.specs.Extending.{IsRefusedAfter}
@@ -20,7 +19,7 @@ pub use Rattle.dary_heap.proofs.Callable.{takes_in_turn, all_callable}
 pub use Rattle.dary_heap.proofs.Cancelling.{IsPermutation-uncons}
 pub use Rattle.dary_heap.proofs.sift.Parts.{ordered_but_at, overwritten}
 pub use Rattle.dary_heap.proofs.peek_mut.Lowering.{sum_falls}
-pub use Rattle.dary_heap.proofs.iter.Popping.{none_first, pops_list, pops_descend}
+pub use Rattle.dary_heap.proofs.iter.Popping.{none_first, pops_list, pops_descend, pops_given}
 
 lt_no : (r : Ordering) → is_lt r ≡ false → ordering_reverse r ≢ Greater
 lt_no r h e = grind arith
@@ -92,15 +91,11 @@ take_yields steps s [] t run = (ap take_source run, omega (arith, ap take_count 
 take_yields steps s (x ∷ xs) t run = let rest = take_yields steps run.0 xs t run.2 in ((take_source run.0, run.1.0, rest.0), omega (arith, rest.1, run.1.1))
 
 module _ {X : Type 0} (cmp : X → X → Ordering) (D : ℕ) where
-  -- after some pops nothing that is left exceeds anything that was taken
-  pub pops_given : (heap : Contents X) (xs : List X) (left : Contents X) → Yields (IsPop cmp D) heap xs left → IsGivenDescending cmp heap.items xs left.items
-  pops_given heap xs left run = (pops_give cmp D heap).part xs left run
-
   first_pops : (heap : Contents X) (k : ℕ) (s t u : Take (Contents X)) (xs : List X) → take_source s ≡ heap → take_count s ≡ k → Yields (take_steps (IsPop cmp D)) s xs t → take_steps (IsPop cmp D) t None u → (left : List X) × IsGivenDescending cmp heap.items xs left × (length xs ≡ min k (length heap.items))
   first_pops heap k s t u xs source count run ended =
       let taken = take_yields (IsPop cmp D) s xs t run in
       let left = take_source t in
-      let part = pops_given heap xs left (rw source at taken.0) in
+      let part = pops_given cmp D heap xs left (rw source at taken.0) in
       let long : length xs + length left.items ≡ length heap.items = omega (arith, length_permutation _ _ part.bag, length-append xs left.items) in
       let all : 0 < take_count t → length left.items ≡ 0 = λ more. ap length (none_first left.items (ended more).first) in
       let as_many : length xs ≡ min k (length heap.items) = elim (cases_lt 0 (take_count t)) [ inl some ↦ omega (arith, all some, long, taken.1, count) | inr none ↦ omega (arith, none, long, taken.1, count) ] in

@@ -17,7 +17,7 @@ pub use Rattle.std.proofs.lemmas.Map.Keys.{IsDistinct-IsPermutation, IsDistinct-
 pub use Rattle.std.proofs.lemmas.Nat.{le-div}
 pub use Rattle.std.proofs.lemmas.Option.{get_or_from_slice_get, slice_get-get_or, slice_get_cases, slice_get_past, slice_get_read, slice_get_within}
 pub use Rattle.std.proofs.lemmas.Result.{MatchResult-weaker, err_from_is_err_and}
-pub use Rattle.std.specs.Bool.{Decides, OnFalse}
+pub use Rattle.std.specs.Bool.{OnFalse}
 pub use Rattle.std.specs.Cmp.{IsTotalOrder, nat_cmp_is, nat_eq_equiv, unsigned_Decides}
 pub use Rattle.std.specs.Fn.{Called, CalledAt, Mut, TakesAt}
 pub use Rattle.std.specs.Iterator.{EndsFrom, Yields, YieldsFirst, YieldsFirstRef, YieldsLast, YieldsLastRef, items_left}
@@ -43,7 +43,7 @@ pub use Rattle.dary_heap.specs.HeapOrder.{HasGreaterChild, IsAtMost, IsHeapOrder
 unfoldable pub use Rattle.dary_heap.specs.HeapOrder.{depth}
 pub use Rattle.dary_heap.specs.Hole.{filled}
 pub use Rattle.dary_heap.specs.Loan.{IsExceeded, IsLent-written}
-pub use Rattle.dary_heap.specs.Machine.{Act, Acts, Append, AppendRefused, Ask, Asked, Changed, Clear, Command, Done, Drain, DrainSorted, End, Ends, Extend, ExtendRefused, Len, Loan, Loaned, Old, Pop, PopIf, Popped, Pops, PopsInTurn, Push, PushRefused, Pushed, PutBack, Refresh, Refused, Reply, Reserve, Retain, Seen, Shrink, Size, Step, Steps, TakeOut, Taken, Write, last_state}
+pub use Rattle.dary_heap.specs.Machine.{Act, Acts, Append, Ask, Asked, Changed, Clear, Command, Done, Drain, DrainSorted, End, Ends, Extend, ExtendRefused, Len, Loan, Loaned, Old, Pop, PopIf, Popped, Pops, PopsInTurn, Push, Pushed, PutBack, Refresh, Reply, Reserve, Retain, Seen, Shrink, Size, Step, Steps, TakeOut, Taken, Write, last_state}
 pub use Rattle.dary_heap.specs.Moving.{ComesTo, SiftsDown, SiftsToBottom, SiftsUp}
 pub use Rattle.dary_heap.specs.PeekMut.{loaned}
 pub use Rattle.dary_heap.specs.Popping.{GivesDescending, IsDescending, IsGivenDescending, IsPop}

@@ -2,6 +2,7 @@
 pub mod Holes
 pub mod PlacesOwned
 pub mod Walks
+pub mod WalksAt
 pub use Holes.*
 pub use PlacesOwned.*
 pub use Walks.*

@@ -3,4 +3,3 @@ pub mod Apart
 pub mod Examining
 pub mod Relaxing
 pub mod Searching
-pub mod WalksAt

@@ -7,7 +7,7 @@ use Rattle.dary_heap.specs.Walk.{Graph}
 use Rattle.dary_heap.specs.declared.shortest_path.Edge.{Edge}
 use Rattle.dary_heap.specs.declared.shortest_path.State.{State}
 
--- at most so many states were pushed and none was popped, and no more comparisons were made than pushes take
+-- the heap has no fewer states and at most so many more, and no more comparisons were made than pushes of those take
 pub record Pushes (most : ℕ) (old new : Contents State) : Type 0 where
   pub more : length old.items ≤ length new.items
   pub few : length new.items ≤ length old.items + most

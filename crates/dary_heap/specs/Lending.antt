@@ -32,7 +32,7 @@ module _ {X : Type 0} (D : ℕ) (o : ord.Ghosts X) (e : eq.Ghosts X) (p : partia
     lent = IsLent-written o.cmp D loan.written loan.items.items w loan.lent;
   }
 
-  -- whatever the proof that the items are so
+  -- whichever proof of `IsLent` it has: any two are the same
   pub with_first-is : (loan : Loan) (w : X) (q : IsLent o.cmp D true (slice_set loan.items.items 0 w)) → record (with_first loan w) { lent = q } ≡ with_first loan w
   with_first-is loan w q = ap (λ it. record (with_first loan w) { lent = it }) (IsLent-prop o.cmp D true (slice_set loan.items.items 0 w) q (with_first loan w).lent)
 

@@ -28,12 +28,12 @@ pub record HasTooLarge (limit cost : ℕ) (edges : List Edge) : Type 0 where
   pub too_large : limit ≤ cost + edge.cost
 
 -- whether two states are equal
-abbrev pub same_state : State → State → Bool
-same_state s t = nat_eq s.cost t.cost && nat_eq s.position t.position
+abbrev pub state_eq : State → State → Bool
+state_eq s t = nat_eq s.cost t.cost && nat_eq s.position t.position
 
 -- the states that wait differ, and none is cheaper than what was found for its node
 pub record AreApart (limit : ℕ) (found : List ℕ) (waiting : List State) : Type 0 where
-  pub distinct : IsDistinct same_state waiting
+  pub distinct : IsDistinct state_eq waiting
   pub above : (s : State) → Contains waiting s → slice_index_or found s.position limit ≤ s.cost
 
 -- the edges of a node that costs so much were examined: found and waiting before, lower and grown after
@@ -53,5 +53,5 @@ pub record Relaxes (limit cost : ℕ) (edges : List Edge) (found : List ℕ) (wa
   pub apart : AreApart limit found waiting → AreApart limit lower grown
   -- if a cost fell, a state with it waits
   pub changes : (v : ℕ) → (slice_index_or lower v limit ≡ slice_index_or found v limit) ⊎ Contains grown (state (slice_index_or lower v limit) v)
-  -- as many states as came, so far at least did the costs fall
+  -- the sum of the costs fell by at least the number of states that came
   pub spent : sum lower + length grown ≤ sum found + length waiting

@@ -1,5 +1,5 @@
 -- Clones that give the same value.
-use Rattle.dary_heap.proofs.Common.{◌≡◌, List, [], ◌∷◌, Contains, refl, arith, Contains-append_right}
+use Rattle.dary_heap.proofs.{◌≡◌, List, [], ◌∷◌, Contains, refl, Contains-first, Contains-later}
 use Rattle.std.specs.List.{AllZip}
 
 -- a list of clones, each of which gives the same value
@@ -8,6 +8,6 @@ clones_same is_clone [] [] gives h = refl
 clones_same is_clone [] (y ∷ ys) gives h = absurd h
 clones_same is_clone (x ∷ xs) [] gives h = absurd h
 clones_same is_clone (x ∷ xs) (y ∷ ys) gives h =
-    let first : y ≡ x = gives x y (0, omega arith, refl) h.0 in
-    let rest : ys ≡ xs = clones_same is_clone xs ys (λ a b in'. gives a b (Contains-append_right (x ∷ []) xs a in')) h.1 in
+    let first : y ≡ x = gives x y (Contains-first x xs) h.0 in
+    let rest : ys ≡ xs = clones_same is_clone xs ys (λ a b in'. gives a b (Contains-later x xs a in')) h.1 in
     cc

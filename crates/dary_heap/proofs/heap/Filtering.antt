@@ -60,8 +60,8 @@ picked-front (true ∷ bs) (x ∷ xs) long = ap (λ zs. x ∷ zs) (picked-front 
 picked-front (false ∷ bs) (x ∷ xs) long = refl
 
 -- no fewer are left than come before the first that is left out
-pub length-picked : {X : Type 0} (bs : List Bool) (xs : List X) → length bs ≡ length xs → first_no bs ≤ length (items_where_true bs xs)
-length-picked bs xs long = omega (arith, first_no-within bs, ap length (picked-front bs xs long), length-take (first_no bs) (items_where_true bs xs), length-take (first_no bs) xs)
+pub many_picked : {X : Type 0} (bs : List Bool) (xs : List X) → length bs ≡ length xs → first_no bs ≤ length (items_where_true bs xs)
+many_picked bs xs long = omega (arith, first_no-within bs, ap length (picked-front bs xs long), length-take (first_no bs) (items_where_true bs xs), length-take (first_no bs) xs)
 
 -- where each answer was yes, all are picked
 pub picked-all : {X : Type 0} (bs : List Bool) (xs : List X) → length bs ≡ length xs → first_no bs ≡ length bs → items_where_true bs xs ≡ xs

@@ -1,5 +1,5 @@
 -- The items of a heap whose first is on loan, and what sifting it down tells of them.
-use Rattle.dary_heap.proofs.{◌≡◌, ◌↔◌, ℕ, zero, suc, ◌+◌, ◌-◌, ◌*◌, ◌<◌, ◌≤◌, Bool, true, false, List, [], ◌∷◌, length, refl, sym, ap, ◌∙◌, subst, arith, Some, IsTrue, slice_get, Contains, Contains-append_right, slice_get_within, get_or_from_slice_get, OnFalse, IsTotalOrder, Ordering, RisesWithin, sink_bound, arity, depth, IsHeapOrdered, HasGreaterChild, IsExceeded, depth-zero, first_is_greatest}
+use Rattle.dary_heap.proofs.{◌≡◌, ◌↔◌, ℕ, zero, suc, ◌+◌, ◌-◌, ◌*◌, ◌<◌, ◌≤◌, Bool, true, false, List, [], ◌∷◌, length, refl, sym, ap, ◌∙◌, subst, arith, Some, IsTrue, slice_get, Contains, slice_get_within, get_or_from_slice_get, OnFalse, IsTotalOrder, Ordering, RisesWithin, sink_bound, arity, depth, IsHeapOrdered, HasGreaterChild, IsExceeded, depth-zero, first_is_greatest, Contains-later}
 
 -- sifting down one item alone compares nothing
 pub lone_uncounted : (D n a b : ℕ) → n ≡ 1 → RisesWithin a b (sink_bound D n) → b ≡ a
@@ -32,9 +32,9 @@ module _ {X : Type 0} {cmp : X → X → Ordering} (D : ℕ) where
   none_exceeds total [] ordered over = over
   none_exceeds total (held ∷ rest) ordered over =
       let first = first_is_greatest total D (held ∷ rest) ordered held refl in
-      first.none_above over.0 (Contains-append_right (held ∷ []) rest over.0 over.1) over.2
+      first.none_above over.0 (Contains-later held rest over.0 over.1) over.2
 
-  -- the first item was sifted down, and answered whether it moved
+  -- the first item was sifted down, and the sift told whether it moved
   pub sunk_unmoved : (xs new : List X) (moved : Bool) → (IsTrue moved ↔ HasGreaterChild cmp D 0 xs) → OnFalse moved (new ≡ xs) → (IsExceeded cmp xs → ⊥) → new ≡ xs
   sunk_unmoved xs new true says still none = absurd (none (exceeds xs (says.0 refl)))
   sunk_unmoved xs new false says still none = still

@@ -1,4 +1,4 @@
--- A run goes on by one command, which asks of the caller and brings in what all commands do.
+-- A run goes on by one command. What it asks of the caller, and the items that it brings in, are among those of all commands.
 use Rattle.dary_heap.proofs.Common.{◌≡◌, ℕ, ◌+◌, ◌≤◌, Bool, List, [], ◌∷◌, ◌++◌, length, refl, ap, arith, Ordering, charge, Contents, Command, Reply, Step, Steps, last_state, IsState, IsServed, Runs, Serves, room, sure_after, All, Contains, sym, subst, append_assoc, All-contains, All-contains_itself, All-weaker, Contains-append_left, Contains-append_right, Mut, Bor, IsCallableOn, items_in, predicates_in, zero-le}
 use Rattle.dary_heap.specs.Bounds.{charges}
 use Rattle.dary_heap.specs.Run.{PushesServed, sure_at_end}

@@ -4,7 +4,7 @@ use Rattle.dary_heap.specs.TwoArities.{HasNoTies, IsSettled, IsUnrefused, RunsUn
 use Rattle.dary_heap.proofs.Bags.{holds_none, Contains-first, IsAmong, IsAmong-cons, IsAmong-tail, IsAmong-append, IsAmong-same}
 use Rattle.dary_heap.proofs.Cancelling.{IsPermutation-uncons}
 use Rattle.dary_heap.proofs.Fronts.{same_state}
-use Rattle.dary_heap.proofs.run.SameStates.{Step-same_state, in_turn, turned, Step-state}
+use Rattle.dary_heap.proofs.run.SameStates.{Step-same_state, in_turn, IsSameState-sym, Step-state}
 use Rattle.dary_heap.proofs.run.ServingLoan.{Acts-among, Acts-from}
 
 module _ {X P : Type 0} {cmp : X → X → Ordering} (calls : P → X → Bool → P → Type 0) (total : IsTotalOrder cmp) (values : List X) (untied : HasNoTies cmp values) where
@@ -60,7 +60,7 @@ module _ {X P : Type 0} {cmp : X → X → Ordering} (calls : P → X → Bool �
   popped_in_turn old (suc n) (x ∷ taken) (y ∷ taken') among h k =
       let both = popped old x y h.0 k.0 among h.1 k.1 in
       let state = one_state h.0 k.0 both.bag both.among h.1.2 k.1.2 in
-      let more = popped_in_turn h.0 n taken taken' both.among h.2 (in_turn cmp calls k.0 h.0 [] [] (turned h.0 k.0 state) (same_state _ _ refl) n taken' k.2) in
+      let more = popped_in_turn h.0 n taken taken' both.among h.2 (in_turn cmp calls k.0 h.0 [] [] (IsSameState-sym h.0 k.0 state) (same_state _ _ refl) n taken' k.2) in
       let first = one_front old x y h.1.0 k.1.0 in
       cc
 
@@ -139,7 +139,7 @@ module _ {X P : Type 0} {cmp : X → X → Ordering} (calls : P → X → Bool �
   runs_alike : (commands : List (Command X P)) (old old' : List X) (replies replies' : List (Reply X)) (states states' : List (List X)) → AllByRecursion IsSettled commands → IsAmong values (items_in commands) → IsAmong values old → IsState cmp old → IsSameState old old' → AllByRecursion IsUnrefused replies → AllByRecursion IsUnrefused replies' → Steps cmp calls old commands replies states → Steps cmp calls old' commands replies' states' → (replies ≡ replies') × IsSameBag (last_state old states) (last_state old' states')
   runs_alike [] old old' [] [] [] [] settled brought among begun from fine fine' run run' = (refl, from.bag)
   runs_alike (command ∷ commands) old old' (reply ∷ replies) (reply' ∷ replies') (new ∷ states) (new' ∷ states') settled brought among begun from fine fine' run run' =
-      let step = Step-same_state cmp calls old' old new' new' (turned old old' from) (same_state _ _ refl) command reply' run'.0 in
+      let step = Step-same_state cmp calls old' old new' new' (IsSameState-sym old old' from) (same_state _ _ refl) command reply' run'.0 in
       let here = steps_alike command commands old reply reply' new new' settled.0 brought among fine.0 fine'.0 run.0 step in
       let state = Step-state calls total old command reply new begun run.0 in
       let to = one_state new new' here.bag here.among state (Step-state calls total old command reply' new' begun step) in

@@ -43,21 +43,21 @@ module _ {X P : Type 0} {cmp : X → X → Ordering} (calls : P → X → Bool �
   Step-state old command reply new h step = search (rules, IsState-same old new h, IsState-empty {cmp = cmp} new)
 
 module _ {X : Type 0} where
-  pub turned : (xs ys : List X) → IsSameState xs ys → IsSameState ys xs
-  turned xs ys h = record { bag = IsPermutation-sym xs ys h.bag; first = sym h.first }
+  pub IsSameState-sym : (xs ys : List X) → IsSameState xs ys → IsSameState ys xs
+  IsSameState-sym xs ys h = record { bag = IsPermutation-sym xs ys h.bag; first = sym h.first }
 
-  both : (xs ys zs : List X) → IsSameState xs ys → IsSameState ys zs → IsSameState xs zs
-  both xs ys zs h k = record { bag = IsPermutation-trans xs ys zs h.bag k.bag; first = k.first ∙ h.first }
+  IsSameState-trans : (xs ys zs : List X) → IsSameState xs ys → IsSameState ys zs → IsSameState xs zs
+  IsSameState-trans xs ys zs h k = record { bag = IsPermutation-trans xs ys zs h.bag k.bag; first = k.first ∙ h.first }
 
   none : (xs ys : List X) → IsSameState xs ys → xs ≡ [] → ys ≡ []
   none xs ys h e = nil_from_length ys (omega (arith, length_permutation xs ys h.bag, ap length e))
 
   some : (xs ys : List X) → IsSameState xs ys → xs ≢ [] → ys ≢ []
-  some xs ys h k e = k (none ys xs (turned xs ys h) e)
+  some xs ys h k e = k (none ys xs (IsSameState-sym xs ys h) e)
 
 module _ {X P : Type 0} (cmp : X → X → Ordering) (calls : P → X → Bool → P → Type 0) (old old' new new' : List X) (from : IsSameState old old') (to : IsSameState new new') where
   kept : IsSameState old new → IsSameState old' new'
-  kept h = both old' old new' (turned old old' from) (both old new new' h to)
+  kept h = IsSameState-trans old' old new' (IsSameState-sym old old' from) (IsSameState-trans old new new' h to)
 
   -- another listing of the bag at the start
   listed : (xs : List X) → IsSameBag old xs → IsSameBag old' xs
@@ -93,9 +93,9 @@ module _ {X P : Type 0} (cmp : X → X → Ordering) (calls : P → X → Bool �
   )
   Step-same_state (PopIf p) (Popped None) h = elim h [ inl empty ↦ inl (none old old' from empty.0, none new new' to empty.1) | inr told ↦ inr (asked p false told.0, kept told.1) ]
   Step-same_state (Retain p) Done h =
-      let listing = both old' old h.0 (turned old old' from) h.2 in
+      let listing = IsSameState-trans old' old h.0 (IsSameState-sym old old' from) h.2 in
       (h.0, h.1, listing, h.3, IsPermutation-trans _ _ _ h.4 to.bag, IsState-same new new' h.5 to, λ all. to.first ∙ h.6 all ∙ sym from.first)
   Step-same_state (Extend xs) ExtendRefused h = (h.0, h.1, h.2, h.3, joined h.0 h.4)
-  Step-same_state (Drain k) (Taken taken) h = ((h.0.0, both old' old h.0.0 (turned old old' from) h.0.1, h.0.2), none new new' to h.1)
+  Step-same_state (Drain k) (Taken taken) h = ((h.0.0, IsSameState-trans old' old h.0.0 (IsSameState-sym old old' from) h.0.1, h.0.2), none new new' to h.1)
   Step-same_state (Loan acts end) (Loaned (Some told)) h = (h.0, h.1, h.2, h.3, from.first ∙ h.4, listed _ h.5, h.6, ended h.2 h.3 end told.1 h.7)
   Step-same_state command reply h = search (rules, kept, joined, popped, in_turn, asked, none old old' from, none new new' to, some old old' from, length_permutation old old' from.bag)

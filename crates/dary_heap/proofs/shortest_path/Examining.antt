@@ -28,7 +28,7 @@ edges_at [] u row at = absurd (cc)
 edges_at (r ∷ rows) zero row at = let is : r ≡ row = cc in ap (λ (v : Vec Edge Global). v.items) is
 edges_at (r ∷ rows) (suc u) row at = edges_at rows u row at
 
--- where nothing was examined, and what stands in the contract of a search
+-- where nothing was examined, nothing was examined twice
 pub none_examined : (g : Graph) (examined : List Edge) → examined ≡ [] → AreExaminedOnce g examined
 unfolding IsDistinct
 none_examined g examined none = record { nodes = []; distinct = tt; left = []; in_turn = sym (append-nil examined ∙ none) }
@@ -94,8 +94,8 @@ module _ {limit : ℕ} {g : Graph} where
 
       module _ (greatest : IsGreatest state_cmp waiting s) {lower : List ℕ} {grown : List State} (R : Relaxes limit s.cost row.items found rest lower grown) where
         -- what was found at no more than the state costs is final
-        stays : (v : ℕ) → get_or found v limit ≤ s.cost → get_or lower v limit ≡ get_or found v limit
-        stays v low = elim (R.changes v) [
+        final : (v : ℕ) → get_or found v limit ≤ s.cost → get_or lower v limit ≡ get_or found v limit
+        final v low = elim (R.changes v) [
           | inl same ↦ same
           | inr in' ↦ elim (R.adds (state (get_or lower v limit) v) in') [
             | inl old ↦ omega (arith, apart_left.above (state (get_or lower v limit) v) old, R.falls v)
@@ -135,10 +135,10 @@ module _ {limit : ℕ} {g : Graph} where
           apart = R.apart apart_left;
           last = s.cost;
           later = later_of;
-          earlier = λ v in'. omega (arith, stays v (low_of v in'), low_of v in');
+          earlier = λ v in'. omega (arith, final v (low_of v in'), low_of v in');
           dearer = λ t in' node.
               let low = low_of t.position node in
-              let kept = stays t.position low in
+              let kept = final t.position low in
               elim (R.cheaper t in') [
                 | inl old ↦ omega (arith, kept, dearer_left t old node)
                 | inr lower ↦ absurd (omega (arith, lower, low, later_of t in'))
@@ -215,7 +215,7 @@ pushes_more {old = old} {mid} {new} a b =
       };
     }
 
--- the edges of nodes of which no two are the same are no more than all edges
+-- a number that no node of the list reads may be 0
 same_sum : (ns : List ℕ) (u : ℕ) (nodes : List ℕ) → AllByRecursion (λ v. nat_eq u v ≡ false) nodes → sum_by (λ v. get_or (set ns u 0) v 0) nodes ≡ sum_by (λ v. get_or ns v 0) nodes
 same_sum ns u [] h = refl
 same_sum ns u (v ∷ nodes) h =
@@ -241,6 +241,7 @@ all_edges_long : (g : Graph) (nodes : List ℕ) → length (all_edges_of g nodes
 all_edges_long g [] = refl
 all_edges_long g (u ∷ nodes) = omega (arith, length-append (edges_of g u) (all_edges_of g nodes), edges_long g u, all_edges_long g nodes, sum_by-cons (λ v. get_or (map (λ row. length row.items) g) v 0) u nodes)
 
+-- the edges of nodes of which no two are the same are no more than all edges
 pub once_few : {g : Graph} {examined : List Edge} → AreExaminedOnce g examined → length examined ≤ sum_by (λ row. length row.items) g
 once_few {g} {examined} once =
     let all : length examined + length once.left ≡ length (all_edges_of g once.nodes) = sym (ap length once.in_turn ∙ length-append examined once.left) in

@@ -3,7 +3,7 @@ use Rattle.dary_heap.proofs.{◌≡◌, ◌⊎◌, ℕ, ◌+◌, ◌<◌, ◌≤
 use Rattle.dary_heap.proofs.shortest_path.Apart.{apart_more}
 
 -- what the code read as the cost found
-found_is : (limit : ℕ) (found : List ℕ) (i x : ℕ) → i < length found → x ≡ get_or found i x → x ≡ get_or found i limit
+pub found_is : (limit : ℕ) (found : List ℕ) (i x : ℕ) → i < length found → x ≡ get_or found i x → x ≡ get_or found i limit
 found_is limit found i x within read = read ∙ get_or_default found i x limit within
 
 -- a cost after one was written

@@ -1,6 +1,7 @@
 -- Walks, edge by edge; what holds of a search each time that a state is about to be taken, and what follows from it.
-use Rattle.dary_heap.proofs.{◌≡◌, ℕ, ◌+◌, ◌<◌, List, [], ◌∷◌, ◌++◌, Contains, All, arith, refl, sym, subst, Some, slice_get, Vec, Global, All-contains, slice_get_within, get_or_from_slice_get, Graph, IsWithin, HasEdge, IsWalk, cost_of, Edge, ◌≢◌, ◌⊎◌, ◌≤◌, min, inl, inr, length, get_or, get_or-set_same, get_or-set_other, ap, ◌∙◌, cases_lt, cases_eq, get_or_default, get_or_past, IsPermutation-sym, slice_get_read, IsSameBag, IsGreatest, state_cmp, state, Relaxes, State, get_or-replicate, length-replicate, HasTooLarge, IsLeastCost, IsUnreached, HasCritical, NoneCriticalBelow, holds_none, came_alone, came_first, came_later, came_cases, set, length-set, replicate}
+use Rattle.dary_heap.proofs.{◌≡◌, ℕ, ◌+◌, ◌<◌, List, [], ◌∷◌, ◌++◌, Contains, All, arith, refl, sym, subst, Some, slice_get, Vec, Global, All-contains, slice_get_within, get_or_from_slice_get, Graph, IsWithin, HasEdge, IsWalk, cost_of, Edge, ◌≢◌, ◌⊎◌, ◌≤◌, min, inl, inr, length, get_or, get_or-set_same, get_or-set_other, ap, ◌∙◌, cases_lt, cases_eq, get_or_past, IsPermutation-sym, slice_get_read, IsSameBag, IsGreatest, state_cmp, state, Relaxes, State, get_or-replicate, length-replicate, HasTooLarge, IsLeastCost, IsUnreached, HasCritical, NoneCriticalBelow, holds_none, came_alone, came_first, came_later, came_cases, set, length-set, replicate}
 use Rattle.dary_heap.proofs.shortest_path.Apart.{no_cheaper}
+use Rattle.dary_heap.proofs.shortest_path.Relaxing.{found_is}
 
 -- some walk from u to v costs c
 pub record Reaches (g : Graph) (u v c : ℕ) : Type 0 where
@@ -143,13 +144,9 @@ module _ {limit : ℕ} {g : Graph} {start goal : ℕ} {found : List ℕ} where
       pub taken : IsWaiting limit g start goal found s
       taken = S.waits s (came_first s rest waiting held)
 
-      -- what the code read as the cost found
-      found_is : (x : ℕ) → x ≡ get_or found s.position x → x ≡ get_or found s.position limit
-      found_is x read = read ∙ get_or_default found s.position x limit taken.within
-
       -- the state isn't dearer than that
       pub current : (x : ℕ) → x ≡ get_or found s.position x → s.cost ≤ x → get_or found s.position limit ≡ s.cost
-      current x read fresh = omega (arith, found_is x read, taken.above)
+      current x read fresh = omega (arith, found_is limit found s.position x taken.within read, taken.above)
 
       -- the row that the code read
       pub row_read : (row : Vec Edge Global) → row ≡ get_or g s.position row → slice_get g s.position ≡ Some row
@@ -165,7 +162,7 @@ module _ {limit : ℕ} {g : Graph} {start goal : ℕ} {found : List ℕ} where
         waits = λ y h. S.waits y (came_later s rest waiting y held h);
         settled = λ u some. elim (S.settled u some) [
           | inl wait ↦ elim (came_cases s rest waiting (state (get_or found u limit) u) held wait) [
-            | inl is ↦ absurd (omega (arith, found_is x read, ap (λ (y : State). get_or found y.position limit) is, ap (λ (y : State). y.cost) is))
+            | inl is ↦ absurd (omega (arith, found_is limit found s.position x taken.within read, ap (λ (y : State). get_or found y.position limit) is, ap (λ (y : State). y.cost) is))
             | inr left ↦ inl left
           ]
           | inr examined ↦ inr examined

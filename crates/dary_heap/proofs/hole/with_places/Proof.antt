@@ -8,7 +8,7 @@ use denote.Triple.Table.{framed}
 use Rattle.dary_heap.specs.Hole.{IsSameSlice}
 use Rattle.dary_heap.specs.declared.hole.places.Places.{Places}
 use Rattle.dary_heap.specs.contracts.hole.with_places.Key.{name}
-use Rattle.dary_heap.proofs.shortest_path.WalksAt.{Walk, one_valued}
+use Rattle.dary_heap.proofs.hole.WalksAt.{Walk, one_valued}
 use Rattle.dary_heap.proofs.hole.with_places.Statement.{statement}
 use denote.Index.{row as row_at, opens_slice, closes_slice}
 use Rattle.dary_heap.specs.Places.{all_filled}

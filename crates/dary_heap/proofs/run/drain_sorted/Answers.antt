@@ -1,6 +1,4 @@
-use Rattle.dary_heap.proofs.Common.{◌≡◌, length, min, refl, sym, ap, arith, is_some, nil_from_length, zero-le, Contents, drained_heap, ℕ, zero, suc, ◌+◌, ◌<◌, ◌≤◌, Bool, List, [], ◌∷◌, ◌∙◌, IsTotalOrder, Ordering, Yields, RisesWithin, pops_bound, Command, Reply, PopsInTurn, Serves}
-use Rattle.std.proofs.iter.Next.{Yields-more}
-use Rattle.dary_heap.specs.DrainSorted.{DrainsSorted}
+use Rattle.dary_heap.proofs.Common.{◌≡◌, length, min, refl, sym, ap, arith, is_some, nil_from_length, zero-le, Contents, drained_heap, ℕ, zero, suc, ◌+◌, ◌<◌, ◌≤◌, Bool, List, [], ◌∷◌, ◌∙◌, IsTotalOrder, Ordering, Yields, RisesWithin, pops_bound, Command, Reply, PopsInTurn, Serves, Yields-more, DrainsSorted}
 use Rattle.dary_heap.proofs.Fronts.{ordered_state}
 use Rattle.dary_heap.proofs.run.Serving.{refused, serves_emptied, serves_same}
 use Rattle.dary_heap.proofs.iter.Popping.{keeps_heap_along, pops_bound_step}

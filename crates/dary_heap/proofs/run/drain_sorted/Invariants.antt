@@ -1,5 +1,4 @@
-use Rattle.dary_heap.proofs.Common.{◌≡◌, ◌≤◌, vec_len, vec_capacity, Yields}
-use Rattle.dary_heap.specs.DrainSorted.{DrainsSorted}
+use Rattle.dary_heap.proofs.Common.{◌≡◌, ◌≤◌, vec_len, vec_capacity, Yields, DrainsSorted}
 use Rattle.dary_heap.proofs.run.drain_sorted.Given as goal
 
 abbrev pub invariant-loop : goal.invariant-loop

@@ -1,12 +1,12 @@
 use Rattle.dary_heap.proofs.Common.{◌≡◌, ◌-◌, ◌≤◌, length, take, sym, ap, ◌∙◌, subst, arith, items_where_true, RisesWithin, mend_bound, first_no, IsHeapOrdered}
-use Rattle.dary_heap.proofs.heap.Filtering.{picked-all, picked-front, length-picked, few_picked, first_no-within}
+use Rattle.dary_heap.proofs.heap.Filtering.{picked-all, picked-front, many_picked, few_picked, first_no-within}
 use Rattle.dary_heap.proofs.sift.{front-ordered, written_back, same_contents}
 use Rattle.dary_heap.proofs.heap.DaryHeap.retain.Goals as goal
 
 pub mend_with-requires : goal.mend_with-requires
 mend_with-requires g c =
     let k = c.keep-start.ensures.kept in
-    omega (arith, ap length (c.as_mut_slice.ensures.value ∙ k.4), length-picked k.0 c.self.inside.items.items k.2, k.5)
+    omega (arith, ap length (c.as_mut_slice.ensures.value ∙ k.4), many_picked k.0 c.self.inside.items.items k.2, k.5)
 
 -- the slice before it is mended, and how many items it has
 is : (g : _) (c : goal.After-self-1 g) → c.as_mut_slice.result.now ≡ items_where_true c.keep-start.ensures.kept.0 c.self.inside.items.items

@@ -1,4 +1,4 @@
--- A `&` to an `Hole` is made of a borrow of it. Of its row of places it lends, for each item that lies there, what a `&` to it holds. Assumes `Logic`.
+-- A `&` to a `Hole` is made of a borrow of it. Of its row of places it lends, for each item that lies there, what a `&` to it holds. Assumes `Logic`.
 use Rattle.dary_heap.proofs.hole.Walks.{Bool, true, false, List, [], ◌∷◌, ℕ, ◌*◌, ◌^◌, Ura, Lft, Fml, Incl, ftrue, fsep, flt, Logic, RattleType, Ptr, block_ptr, null_ptr, in_block, ◌+ₚ◌, Laws, Lends, Lends-both, Lends-false, Lends-lies, Lends-nothing, Lends-said, lent_at_shr_laws, bytes_of, slot, slots, owned, slot_lent, slots_lent, lent, ◌++◌, Incl-trans, meet_⊑_left, RawPtr-copy, usize-copy, of_Lends}
 use denote.Shares.{Shares-less}
 use denote.Sharing.{ShrLaws, nothing, said, beside}

@@ -4,7 +4,7 @@ use Rattle.dary_heap.specs.Places.{all_filled, filled_but}
 use Rattle.dary_heap.specs.declared.hole.places.Hole.{Hole}
 use Rattle.dary_heap.specs.declared.hole.places.Places.{Places}
 use Rattle.dary_heap.specs.contracts.hole.places.Hole.fill.Key.{name}
-use Rattle.dary_heap.proofs.shortest_path.WalksAt.{Walk}
+use Rattle.dary_heap.proofs.hole.WalksAt.{Walk}
 use Rattle.dary_heap.proofs.hole.places.Hole.fill.Statement.{statement}
 use Rattle.dary_heap.specs.contracts.hole.places.Hole.fill as f
 use Rattle.dary_heap.proofs.hole.places.Hole.fill.Code as code

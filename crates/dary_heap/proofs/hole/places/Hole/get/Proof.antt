@@ -1,8 +1,6 @@
 -- `Hole::get` makes a `&` to the item at a place out of the pointer behind its own `&`.
-use Rattle.dary_heap.proofs.hole.Walks.{◌≡◌, ◌∙◌, Bool, true, false, List, [], ◌∷◌, ◌+◌, ◌*◌, ◌<◌, ◌^◌, arith, length, length-set, length-replicate, get_or, get_or-replicate, replicate, ftrue, flft, fhide, Val, ‵, ◌⊛◌, ◌$◌, move, drop, use1, split, fsplit, flt_l, RattleType, Slot, plain, RefOf, usize, hidden_shr, in_a_block, Struct, shape, lent_out, slots_lent, El, R, el_x, one_below, times_below, hd, any-default, none_at_null, value_lent, sz, refl, Fn, w64, named, inst_fn, vptr, ◌⊑◌, fact, tables, yes, uint_vals, uint_Tells, owns, shr_vals, shr_Tells, types_at, nothing, heard, Stays, stay_dropped, Goes-dropped, says, walk_of, ends_at, raw, at_ret, ◌∵◌, !, qed, join, fjoin, feq_i, suffices, done, enter, of_opd, bin, size_lit, addr, load, look, fld, stop, first, blocks, exec, returns, alloc_all, pass_all, free_all, look_at, get, through, sets, sets_last, env, proved, args, after, pointer_in, pointer_out}
-use mathlib.Core.Logic.{◌≢◌}
+use Rattle.dary_heap.proofs.hole.{◌≢◌, ◌≡◌, Bool, true, false, List, [], ◌∷◌, ◌+◌, ◌*◌, ◌<◌, ◌^◌, arith, length, get_or, ftrue, flft, fhide, Val, ‵, ◌⊛◌, ◌$◌, move, drop, use1, split, fsplit, flt_l, Slot, plain, RefOf, usize, hidden_shr, in_a_block, Struct, shape, lent_out, slots_lent, El, R, Hollow, holds_other, many_marks, el_x, one_below, times_below, hd, any-default, none_at_null, value_lent, sz, refl, Fn, w64, named, inst_fn, vptr, ◌⊑◌, fact, tables, yes, uint_vals, uint_Tells, owns, shr_vals, shr_Tells, types_at, nothing, heard, Stays, stay_dropped, Goes-dropped, says, walk_of, ends_at, raw, at_ret, ◌∵◌, !, qed, join, fjoin, feq_i, suffices, done, enter, of_opd, bin, size_lit, addr, load, look, fld, stop, first, blocks, exec, returns, alloc_all, pass_all, free_all, look_at, get, through, sets, sets_last, env, proved, args, after, pointer_in, pointer_out}
 use denote.Opens.{hide, unhide}
-use Rattle.std.proofs.lemmas.List.{get_or-set_other}
 use Rattle.dary_heap.specs.Places.{filled_but}
 use Rattle.dary_heap.proofs.hole.places.Hole.get.Statement.{statement}
 use Rattle.dary_heap.specs.contracts.hole.places.Hole as C
@@ -10,12 +8,9 @@ use Rattle.dary_heap.specs.contracts.hole.places.Hole.get as F
 use Rattle.dary_heap.proofs.hole.places.Hole.get.Code as code
 
 module _ (E : El) where
-  abbrev others : RattleType
-  others = C.the_row (R E)
-
   -- `&self`, of a function with that one lifetime beside the element type's
   abbrev by_ref : Slot 2
-  by_ref = RefOf (0 ∷ []) tt (plain (λ _. others)) (λ _. tt)
+  by_ref = RefOf (0 ∷ []) tt (plain (λ _. Hollow E)) (λ _. tt)
 
   abbrev stays : Stays (F.ended E.row).signature.params (F.ended E.row).kept
   stays = (stay_dropped by_ref yes, (stay_dropped (plain (λ _. usize)) yes, tt))
@@ -29,7 +24,7 @@ get_spec 𝓤 𝓛 𝓜 𝓡 wired T L =
     let 𝓣 = tables 𝓤 𝓛.H 𝓜 𝓡 𝓡.env in
     proved 𝓛 (F.ended T) (stays E) c 𝓜 𝓡 (Goes-dropped 𝓛 2 (by_ref E) yes (λ κs x w. refl), (Goes-dropped 𝓛 2 (plain (λ _. usize)) yes (λ κs x w. refl), tt))
     (F.Key.name (args E)) (body E) (code.unfolded 𝓤 𝓛.H 𝓜 𝓡 wired (T, tt))
-    (λ κs. (shr_vals, (uint_vals w64, tt))) (λ κs. (shr_Tells (named 0) κs.0 (others E), (uint_Tells w64, tt)))
+    (λ κs. (shr_vals, (uint_vals w64, tt))) (λ κs. (shr_Tells (named 0) κs.0 (Hollow E), (uint_Tells w64, tt)))
     (λ κs qs bounds a g are.
     let d = a.0.now in let b = a.0.ref_ptr.0 in let o = a.0.ref_ptr.1 in let place = a.1.0 in
     let y : (walk_of 𝓛 (F.ended T) (stays E) c).Ghost = ((κs, qs, bounds, a, (shr_vals a.0, (uint_vals w64 place, tt))), g) in
@@ -45,9 +40,9 @@ get_spec 𝓤 𝓛 𝓜 𝓡 wired T L =
     move ! (1 ∷ []) $ drop ! $ move ! (0 ∷ 1 ∷ 2 ∷ []) $ drop ! $ move ! (1 ∷ []) $
     -- an item x lies at each place but the empty one, at an offset in range
     let marks : List Bool = filled_but d.len d.at in
-    let counted : length marks ≡ d.len = length-set (replicate d.len true) d.at false ∙ length-replicate d.len true in
+    let counted : length marks ≡ d.len = many_marks d.len d.at in
     let marked : place < length marks = omega (arith, d.ok.0, asks.0) in
-    let filled : get_or marks place false ≡ true = get_or-set_other (replicate d.len true) d.at place false false asks.1 ∙ get_or-replicate d.len place true false (omega (arith, d.ok.0, asks.0)) in
+    let filled : get_or marks place false ≡ true = holds_other d.len d.at place (omega (arith, d.ok.0, asks.0)) asks.1 in
     let top : el_x E = hd d.items (omega (arith, asks.0)) in let x : el_x E = get_or d.items place top in
     let size : sz E < 2 ^ 63 = one_below d.len (sz E) (2 ^ 63) (omega (arith, d.ok.0, asks.0)) fit in
     let offset : place * sz E < 2 ^ 63 = times_below place d.len (sz E) (2 ^ 63) (omega (arith, d.ok.0, asks.0)) fit in
