@@ -2,7 +2,7 @@
 //!
 //! A clause sees a heap as its `Contents`: its items in the order in which they are stored, how many there is room
 //! for, and how many comparisons it made. The slice is always heap ordered, so its first item is a greatest one.
-ghost use Rattle.std.specs.Prelude.{◌≡◌, ◌+◌, ◌-◌, ◌<◌, ◌≤◌, ◌↔◌, [], ◌∷◌, ℕ, length, slice_get, vec_capacity, Some, IsSome, IfSome, IfNone, OnOk, OnErr, IfErr, IsOk, is_ok, if◌then◌else◌, ◌==◌};
+ghost use Rattle.std.specs.Prelude.{◌≡◌, ◌+◌, ◌-◌, ◌<◌, ◌≤◌, ◌↔◌, [], ◌∷◌, length, slice_get, vec_capacity, Some, IsSome, IfSome, IfNone, OnOk, OnErr, IfErr, IsOk, is_ok, if◌then◌else◌, ◌==◌};
 ghost use Rattle.std.specs.BinaryHeap.{IsUpperBound};
 ghost use Rattle.std.specs.Option.{option_copied};
 ghost use Rattle.dary_heap.specs.Bag.{IsSameBag, IsGreatest};

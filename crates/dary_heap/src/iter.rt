@@ -6,7 +6,7 @@
 //! | [`IntoIter`] | `into_iter`, a loop over `heap` | by value | as stored, from both ends |
 //! | [`Drain`] | [`drain`](crate::DaryHeap::drain) | by value; the heap is empty afterwards | as stored, from both ends |
 //! | [`IntoIterSorted`] | [`into_iter_sorted`](crate::DaryHeap::into_iter_sorted) | by value | descending |
-//! | [`DrainSorted`] | [`drain_sorted`](crate::DaryHeap::drain_sorted) | by value; the heap is empty afterwards | descending |
+//! | [`DrainSorted`] | [`drain_sorted`](crate::DaryHeap::drain_sorted) | by value; the heap is empty after the drop | descending |
 //!
 //! `len` returns how many items are left, and after a `None` each returns `None` again. The first
 //! three compare nothing. A clause sees them as the list of the items that are left, and the last

@@ -17,7 +17,7 @@ mod methods;
 
 /// The greatest item of a heap, which [`DaryHeap::peek_mut`] returns. It is read and written through `*`.
 ///
-/// A write may change the item's order. The item counts as written from a call of `deref_mut` until the next
+/// A write may change the item's place in the order. The item counts as written from a call of `deref_mut` until the next
 /// [`refresh`](PeekMut::refresh). When the `PeekMut` is dropped, a written item goes down to its place. If no other
 /// item is strictly greater than it, no item moves. The heap's capacity stays the same. If a `PeekMut` is forgotten
 /// by `mem::forget`, the heap is empty afterwards. It may still be used.

@@ -45,7 +45,7 @@ pub enum Seen<T> {
     Changed(bool),
 }
 
-/// A call on a heap.
+/// A call on a heap. `P` is the type of all predicates of a list, as `fn(&T) -> bool`.
 #[derive(Drop)]
 pub enum Command<T: Ord, const D: usize, P> {
     /// Adds an item.
@@ -70,9 +70,9 @@ pub enum Command<T: Ord, const D: usize, P> {
     Shrink(usize),
     /// Drops all items.
     Clear,
-    /// Removes all items, and returns this many of them, the first in the order of `as_slice`.
+    /// Removes all items, and returns the first in the order of `as_slice`: this many, or all if there are fewer.
     Drain(usize),
-    /// Pops all items, and returns this many of them, the first popped.
+    /// Pops all items, and returns the first popped: this many, or all if there are fewer.
     DrainSorted(usize),
     /// Lends a greatest item, the one that a pop would remove, for these acts and this end.
     Loan(Vec<Act<T>>, End),
@@ -185,7 +185,7 @@ pub fn run<T: Ord + Drop, const D: usize, P: FnMut(&T) -> bool>(
 /// States a law: the replies are the same at every arity. It does nothing when it runs.
 ///
 /// Two runs of the bag machine by the same commands, from states with the same bag, give the same
-/// replies and leave the same bag, if no command holds a predicate or a heap or drains in slice
+/// replies and leave the same bag, if no command holds a predicate or a heap, or drains in slice
 /// order, no two different values of the bag and the commands compare equal, and no memory
 /// allocation fails. The machine knows no arity, so this holds of what [`run`] returns at any two:
 /// the lemma `RunsUnrefused-from` of `proofs/run/SameReplies.antt` leads there from its clause `runs`.

@@ -1,7 +1,7 @@
 //! A word as a list of linked pieces, in one vector. A place is an index of the vector. A piece that was merged into
 //! the one before it is left out by the links of the others.
-ghost use Rattle.std.specs.Prelude.{◌≡◌, ◌<◌, length, IfOk, OnOk, IsOk, slice_set, vec_capacity, ◌≤◌, []};
-ghost use Rattle.dary_heap_pieces.specs.Links.{IsLinked, IsLive, link, word_of, standing, joined, with_previous};
+ghost use Rattle.std.specs.Prelude.{◌≡◌, ◌<◌, length, IfOk, IsOk, []};
+ghost use Rattle.dary_heap_pieces.specs.Links.{IsLinked, link, word_of, standing, joined, with_previous};
 ghost use Rattle.dary_heap_pieces.specs.Merging.{table_of};
 
 use crate::table::{Merge, Merges, merge_of};

@@ -1,6 +1,6 @@
 //! Merges the pieces of a word. Each pair that has a merge is a candidate in a heap: its rank, and the place of its left
 //! piece. One whose pair has another rank by now is passed over.
-ghost use Rattle.std.specs.Prelude.{◌≡◌, ◌≢◌, ◌+◌, ◌-◌, ◌*◌, ◌<◌, ◌≤◌, ℕ, [], ◌∷◌, ◌++◌, length, vec_len, vec_capacity, Some, Contains, List, IfOk, IsOk};
+ghost use Rattle.std.specs.Prelude.{◌≡◌, ◌+◌, ◌-◌, ◌*◌, ◌<◌, ◌≤◌, ℕ, [], ◌∷◌, ◌++◌, length, vec_len, vec_capacity, Some, Contains, List, IfOk, IsOk};
 ghost use Rattle.std.specs.declared.cmp.Reverse.{Reverse};
 ghost use Rattle.dary_heap.specs.Bounds.{RisesWithin, push_bound, pop_bound};
 ghost use Rattle.dary_heap_pieces.specs.Links.{IsFirst, IsLinked, IsOffered, candidate, merging_bound, standing, word_of};

@@ -1,4 +1,4 @@
-//! The functions that the README and `CALLING.md` of `dary_heap` show, word for word.
+//! The functions that `CALLING.md` of `dary_heap` shows word for word and the README without contracts, and others.
 ghost use Rattle.std.specs.Ordering.{nat_cmp};
 ghost use Rattle.std.specs.Prelude.{◌≡◌, ◌<◌, ◌≤◌, ◌↔◌, ◌∷◌, [], ℕ, nat_le, All, drop, filter, length, Some, IsSome, IsTrue, IfSome, IfNone, IfOk, IfErr};
 ghost use Rattle.dary_heap.specs.Bag.{IsGreatest, IsSameBag};

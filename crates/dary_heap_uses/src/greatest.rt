@@ -2,7 +2,7 @@
 //!
 //! A heap of `Reverse` has the least of the items that are kept at its top. A greater item takes its place
 //! through a loan, in one way down; a push and a pop would take a way up and a way down.
-ghost use Rattle.std.specs.Prelude.{◌≡◌, ◌+◌, ◌*◌, ◌≤◌, [], ◌∷◌, ◌++◌, List, length, IfOk, OnOk};
+ghost use Rattle.std.specs.Prelude.{◌+◌, ◌*◌, ◌≤◌, [], ◌∷◌, ◌++◌, List, length, IfOk, OnOk};
 ghost use Rattle.std.specs.Iterator.{Drains, IsFinite};
 ghost use Rattle.dary_heap.specs.Bounds.{RisesWithin, push_bound, pop_bound};
 ghost use Rattle.dary_heap_uses.specs.Keeping.{KeepsGreatest, values};

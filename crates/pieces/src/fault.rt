@@ -1,5 +1,5 @@
 //! What ends a run early.
-ghost use Rattle.std.specs.Prelude.{◌≡◌, ◌≤◌, ◌<◌};
+ghost use Rattle.std.specs.Prelude.{◌≤◌, ◌<◌};
 
 use std::alloc::{AllocError, AllocFailed};
 use std::io::{ErrorKind, Write};

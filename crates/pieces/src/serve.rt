@@ -1,5 +1,5 @@
 //! One run of the program, over any streams.
-ghost use Rattle.std.specs.Prelude.{◌≡◌, ◌≤◌};
+ghost use Rattle.std.specs.Prelude.{◌≤◌};
 
 use crate::fault::Fault;
 use crate::vocabulary::{Vocabulary, first_word};

@@ -1,5 +1,5 @@
 //! The pieces that a table names, and their merges.
-ghost use Rattle.std.specs.Prelude.{◌≡◌, ◌<◌, ◌≤◌, length, IfSome};
+ghost use Rattle.std.specs.Prelude.{◌<◌, length, IfSome};
 
 use crate::fault::Fault;
 use dary_heap_pieces::table::{Merge, Merges};

@@ -1,6 +1,6 @@
 //! The iterator that pops the items of a heap and leaves it empty.
-ghost use Rattle.std.specs.Prelude.{◌≡◌, ◌^◌, ◌<◌, [], length, Some, IfSome};
-ghost use Rattle.std.specs.Iterator.{UpTo, item_count};
+ghost use Rattle.std.specs.Prelude.{◌≡◌, ◌^◌, ◌<◌, [], length, Some};
+ghost use Rattle.std.specs.Iterator.{item_count};
 ghost use Rattle.dary_heap.specs.Sizes.{HintsExactly};
 ghost use Rattle.dary_heap.specs.Bounds.{RisesWithin, pops_bound};
 ghost use Rattle.dary_heap.specs.HeapOrder.{IsHeapOrdered};
@@ -10,11 +10,10 @@ use crate::heap::DaryHeap;
 use std::fmt;
 use std::iter::FusedIterator;
 
-/// An iterator over the items of a heap in descending order. Each `next` is a pop, and the heap is
-/// empty afterwards.
+/// An iterator over the items of a heap in descending order. Each `next` is a pop.
 ///
-/// [`DaryHeap::drain_sorted`] returns it. When it is dropped, it pops and drops the items that are
-/// left. That takes at most as many comparisons as their pops.
+/// [`DaryHeap::drain_sorted`] returns it. When it is dropped, it pops and drops the items that are left. That takes
+/// at most as many comparisons as their pops. If it is forgotten, they stay in the heap.
 ///
 /// # Examples
 ///

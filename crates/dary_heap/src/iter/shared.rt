@@ -1,7 +1,7 @@
 //! The iterator that lends the items of a heap.
-ghost use Rattle.std.specs.Prelude.{◌≡◌, ◌^◌, ◌<◌, [], List, length, Some, IfSome, ⊤};
+ghost use Rattle.std.specs.Prelude.{◌≡◌, ◌^◌, ◌<◌, [], List, length, Some, ⊤};
 ghost use Rattle.std.specs.Slice.Iter.{iter_rest};
-ghost use Rattle.std.specs.Iterator.{YieldsFirstRef, YieldsLastRef, UpTo, item_count};
+ghost use Rattle.std.specs.Iterator.{YieldsFirstRef, YieldsLastRef, item_count};
 ghost use Rattle.std.specs.Iterator.Runs.{YieldsRefsInOrder, YieldsRefsInReverse};
 ghost use Rattle.dary_heap.specs.Sizes.{HintsExactly};
 

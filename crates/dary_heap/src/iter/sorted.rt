@@ -1,6 +1,6 @@
 //! The iterator that pops the items of a heap.
-ghost use Rattle.std.specs.Prelude.{◌≡◌, ◌^◌, ◌<◌, length, Some, Contains, IfOk, IfSome};
-ghost use Rattle.std.specs.Iterator.{UpTo, item_count};
+ghost use Rattle.std.specs.Prelude.{◌≡◌, ◌^◌, ◌<◌, length, Some, Contains, IfOk};
+ghost use Rattle.std.specs.Iterator.{item_count};
 ghost use Rattle.dary_heap.specs.Sizes.{HintsExactly};
 ghost use Rattle.dary_heap.specs.Bounds.{RisesWithin, build_bound};
 ghost use Rattle.dary_heap.specs.Contents.{Contents};
