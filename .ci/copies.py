@@ -1,18 +1,23 @@
 """Copies of the crates: one in which they are proved, and one more for each check of bodies."""
 import contextlib
+import os
 import re
 import shutil
 from concurrent.futures import ThreadPoolExecutor
 from subprocess import DEVNULL, PIPE, STDOUT, run
+from threading import Semaphore
 
 from bodies import TOP
 
 PARTS = ("src", "specs", "proofs")
+# Commands that run at once: more would only take processors from one another.
+RUNNING = Semaphore(len(os.sched_getaffinity(0)))
 
 
 def rt(folder, *words):
     """Runs a command of `rt`, and returns its status and what it said."""
-    ran = run(["rt", *words], cwd=folder, encoding="utf-8", errors="replace", stdin=DEVNULL, stdout=PIPE, stderr=STDOUT)
+    with RUNNING:
+        ran = run(["rt", *words], cwd=folder, encoding="utf-8", errors="replace", stdin=DEVNULL, stdout=PIPE, stderr=STDOUT)
     return ran.returncode, ran.stdout.splitlines()
 
 
