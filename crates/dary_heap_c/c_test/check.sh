@@ -1,7 +1,7 @@
 #!/usr/bin/env bash
 # Builds the static library, installs it into an empty folder, and then compiles and runs what is written in C and C++
 # over it: answers.c, beside.cpp, the programs of ../examples and that of ../README.md. answers.c is run over what the
-# toolchain's other backend builds too. It prints a line for each of these, one more for each wrong answer, and at last
+# toolchain's other backend builds too. It prints what it found right, a line for each wrong answer, and at last
 # how many of the answers are wrong. Its status is 0 if none is.
 #
 # It needs the command `rt`, and passes its words on to `rt lib`. CC and CXX name the compilers, with words behind if you
@@ -96,10 +96,11 @@ compile() {
 
 # Compiles a program, and compares what it prints.
 shows() {
-    local source=$1 wanted=$2
+    local source=$1 wanted=$2 printed
     shift 2
     compile program "$source" "$@"
-    [[ "$("$room/program")" == "$wanted" ]] || fail "$source prints something else"
+    printed=$("$room/program") || fail "$source fails"
+    [[ "$printed" == "$wanted" ]] || fail "$source prints something else"
 }
 
 due=$(sed -n '/^    30: timer 1/,/^$/s/^    //p' ../README.md)

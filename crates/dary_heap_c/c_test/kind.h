@@ -223,7 +223,7 @@ static void LOCAL(test_at)(size_t len, enum place where) {
 /* Calls on so many items that the library takes its ways for long arrays: from so many bytes on, times
  * the arity, it goes down in another way. */
 static void LOCAL(test_long)(void) {
-    const size_t len = (arity << 21) / sizeof(ITEM) + 1000;
+    const size_t len = (arity << 22) / sizeof(ITEM) + 1000;
     ITEM *const items = malloc(len * sizeof *items);
     if (items == NULL)
         abort();
