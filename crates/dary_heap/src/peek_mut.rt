@@ -17,10 +17,10 @@ mod methods;
 
 /// The greatest item of a heap, which [`DaryHeap::peek_mut`] returns. It is read and written through `*`.
 ///
-/// A write may change the item's place in the order. The item counts as written from a call of `deref_mut` until the next
-/// [`refresh`](PeekMut::refresh). When the `PeekMut` is dropped, a written item goes down to its place. If no other
-/// item is strictly greater than it, no item moves. The heap's capacity stays the same. If a `PeekMut` is forgotten
-/// by `mem::forget`, the heap is empty afterwards. It may still be used.
+/// A write may change the item's place in the order. The item counts as written from a call of `deref_mut` until
+/// the next [`refresh`](PeekMut::refresh). When the `PeekMut` is dropped, a written item goes down to its place. If
+/// no other item is strictly greater than it, no item moves. The heap's capacity stays the same. If a `PeekMut` is
+/// forgotten by `mem::forget`, the heap is empty afterwards. It may still be used.
 ///
 /// The drop takes no comparison and leaves the heap as it was if the item was not written, or is
 /// the only one. Otherwise it takes at most as many comparisons as the arity times the depth of the

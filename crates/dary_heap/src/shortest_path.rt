@@ -110,9 +110,9 @@ pub enum PathRefusal {
 ///
 /// Returns [`PathRefusal::CostTooLarge`] if costs get too large for a `usize`. Call a node other than the goal that
 /// a walk reaches *critical* if its least cost, with what one of its edges costs, comes to `usize::MAX` or more. If
-/// some critical node's least cost is below that of every walk to the goal, the call fails. It returns
-/// this error only if some critical node's least cost is at most that of every walk to the goal. So an edge that costs
-/// too much doesn't matter if the node that it leaves is dearer to reach than the goal.
+/// some critical node's least cost is below that of every walk to the goal, the call fails. It returns this error
+/// only if some critical node's least cost is at most that of every walk to the goal. So an edge that costs too
+/// much doesn't matter if the node that it leaves is dearer to reach than the goal.
 ///
 /// # Examples
 ///

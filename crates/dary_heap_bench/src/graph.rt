@@ -1,5 +1,5 @@
 //! The search for a cheapest walk, on a graph that is handed in as a list of edges.
-ghost use Rattle.std.specs.Prelude.{◌<◌, length, IsTrue};
+ghost use Rattle.std.specs.Prelude.{length, IsTrue};
 ghost use Rattle.dary_heap.specs.Walk.{IsWithin};
 
 use crate::queue::{Counting, Queue};

@@ -131,8 +131,8 @@ pub extern "C" fn bench_numbers(
     over!(heap, i64, work_on_numbers<>(alloc, call, items, more, piece, out))
 }
 
-/// On numbers, by a heap of an arity that counts. It returns how many comparisons were made once the numbers
-/// were there.
+/// On numbers, by a heap of an arity that counts. It returns how many comparisons were made, and for
+/// COPY how many numbers were written.
 #[unsafe(no_mangle)]
 pub extern "C" fn bench_counted(
     alloc: Global,
@@ -178,7 +178,7 @@ pub extern "C" fn bench_records(
     over!(heap, Record, work<Record>(alloc, call, items, more, out))
 }
 
-/// On strings. A heap is built where other items are taken as they are.
+/// On strings. A heap is built of them where other kinds have it heap ordered already.
 #[unsafe(no_mangle)]
 pub extern "C" fn bench_strings(
     alloc: Global,

@@ -4,7 +4,7 @@
 //! - [`signed`], [`unsigned`] and [`double`] have the functions on numbers. [`entry`] has those on a key with a value,
 //!   and [`sequenced`] those on a key with a sequence number, by which equal keys come out in the order in which they
 //!   came in. Each function is there for a max-heap and for a min-heap.
-//! - [`in_place`] has the algorithms, for any items that are copied and any judge, at an arity that is a number.
+//! - [`in_place`] has the algorithms, for items of any type and any judge, at an arity that is a number.
 //! - [`judges`] has the judges.
 //!
 //! `dary_heap_c.h` documents each function, and its contract names what of `specs/InPlace.antt` it does in which

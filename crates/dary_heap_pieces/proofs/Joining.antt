@@ -157,7 +157,7 @@ module _ (links : List Link) (linked : IsLinked links) (p v : ℕ) (live : IsLiv
         | inr e ↦ omega (arith, next_other q e was.0, linked.forward q was.1)
       ]
 
-  -- one that is left and not the first is the one behind the new piece, or is linked back as it was
+  -- but for the one behind it, no piece that is left is linked back to the right piece
   not_back : (q : ℕ) → IsLive links q → 0 < q → q ≢ a → (link links q).previous ≢ r
   not_back q h above g e = g (sym (linked.there_and_back q h above) ∙ ap (next_at links) e)
 

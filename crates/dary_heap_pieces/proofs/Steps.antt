@@ -1,4 +1,4 @@
--- A candidate that is first: where its pair still has its rank, merging it is a step, and else no pair needs it.
+-- A candidate that is first: if its pair still has its rank, merging it is a step, and else no pair needs it.
 use Rattle.dary_heap_pieces.proofs.Common.{◌≡◌, ◌≢◌, ◌⊎◌, ℕ, zero, suc, ◌+◌, ◌<◌, ◌≤◌, List, [], ◌∷◌, ◌++◌, length, take, drop, slice_get, Contains, Option, Some, None, is_some, inl, inr, refl, sym, ap, ◌∙◌, subst, arith, length-append, take-append_seam, drop-append-add, drop_all, cases_lt, cases_eq, Contains-cases, came_later, nat_le_from_first, nat_le_from_cmp, IsPermutation-sym, Contains-permutation, link, word_of, IsLive, IsLinked, merge_of, standing, joined, candidate, IsOffered, IsFirst, IsMergeAt, IsStep, LeadsTo, IsMerged, Link, Merge}
 use Rattle.std.specs.Cmp.{nat_cmp_is}
 use Rattle.std.specs.Ordering.{nat_cmp, ordering_then}

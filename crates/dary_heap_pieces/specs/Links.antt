@@ -30,7 +30,7 @@ pub record IsLinked (links : List Link) : Type 0 where
   pub lands_back : (place : ℕ) → IsLive links place → 0 < place → IsLive links (link links place).previous
   pub there_and_back : (place : ℕ) → IsLive links place → 0 < place → (link links (link links place).previous).next ≡ place
 
--- the merge of two pieces, where both are left
+-- the merge of two pieces, if both are left
 abbrev pub merge_of : (ℕ → ℕ → Option Merge) → Option ℕ → Option ℕ → Option Merge
 merge_of table (Some left) (Some right) = table left right
 merge_of table (Some left) None = None
@@ -61,7 +61,7 @@ candidate rank place = record { 0 = (rank, place) }
 pub record IsOffered (table : ℕ → ℕ → Option Merge) (links : List Link) (candidates : List (Reverse (ℕ × ℕ))) : Type 0 where
   pub each : (place : ℕ) (merge : Merge) → standing table links place ≡ Some merge → Contains candidates (candidate merge.rank place)
 
--- what it may cost to merge a word of n pieces, where m candidates wait: a pop for each of them and for two more for each merge, and two pushes for each merge
+-- what it may cost to merge a word of n pieces, while m candidates wait: a pop for each of them and for two more for each merge, and two pushes for each merge
 abbrev pub merging_bound : ℕ → ℕ → ℕ
 merging_bound m n = (m + 2 * (n - 1)) * pop_bound 8 (m + n) + 2 * (n - 1) * push_bound 8 (m + n)
 

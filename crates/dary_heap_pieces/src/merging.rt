@@ -64,7 +64,8 @@ fn put_word(links: &[Link], merged: &mut Vec<u32>)
     }
 }
 
-/// Merges the pieces of a word by way of an empty heap. Each pair is pushed, and two for each merge.
+/// Merges the pieces of a word by way of an empty heap. Each pair with a rank is pushed, and at most two for each
+/// merge.
 fn merge_links(merges: &Merges, links: &mut [Link], candidates: &mut Candidates)
     requires linked { IsLinked links.old }
     requires whole { length (word_of links.old) ≡ length links.old }
@@ -79,7 +80,7 @@ fn merge_links(merges: &Merges, links: &mut [Link], candidates: &mut Candidates)
     merge_all(merges, links, candidates);
 }
 
-/// Adds each pair that has a rank to no candidates.
+/// Adds each pair that has a rank to an empty heap of candidates.
 fn offer_all(merges: &Merges, links: &[Link], candidates: &mut Candidates)
     requires linked { IsLinked links.now }
     requires empty { candidates.old.items ≡ [] }
@@ -110,8 +111,8 @@ fn merge_all(merges: &Merges, links: &mut [Link], candidates: &mut Candidates)
     }
 }
 
-/// Merges the pair at a place, which is the leftmost of the least rank if it has this rank, and adds the two pairs of
-/// which the new piece is a part to the candidates. A pair that has another rank by now is left as it is.
+/// Merges the pair at a place, which is the leftmost of the least rank if it has this rank, and adds those of the two
+/// pairs with the new piece that have a rank to the candidates. A pair that has another rank by now is left as it is.
 fn merge_candidate(
     merges: &Merges,
     links: &mut [Link],

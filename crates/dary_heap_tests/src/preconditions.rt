@@ -56,7 +56,7 @@ fn is_even(item: &i32) -> bool {
 
 // A predicate without state, that may be called on any item.
 #[test]
-fn a_pop_comes_where_the_predicate_answers_yes(rt: HostRuntime) -> Tested {
+fn a_pop_comes_if_the_predicate_returns_true(rt: HostRuntime) -> Tested {
     let mut heap = BinaryHeap::from([1, 2].to_vec(rt.alloc())?);
     assert_eq!(rt; heap.pop_if(is_even), Some(2));
     assert_eq!(rt; heap.as_slice(), [1].as_slice());
@@ -99,7 +99,7 @@ fn items_come_in_by_value_and_by_reference(rt: HostRuntime) -> Tested {
     Ok(())
 }
 
-/// Mends a slice from a start, which is tested first, and compares it afterwards and what that made.
+/// Mends a slice from a start, which is tested first, and compares the slice and the comparisons made.
 fn mend<const D: usize>(
     rt: &impl Host,
     before: &[i32],

@@ -1,4 +1,4 @@
-//! Calls of the public functions of `dary_heap_uses` that have a precondition, at concrete types, and a
+//! Calls of public functions of `dary_heap_uses` that have a precondition, at concrete types, and a
 //! handler of the caller's own.
 ghost use Rattle.std.specs.Prelude.{IfOk, IsSorted};
 

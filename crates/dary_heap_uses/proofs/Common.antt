@@ -30,7 +30,7 @@ pub use Rattle.dary_heap_uses.specs.Keeping.{KeepsGreatest, values}
 pub use Rattle.dary_heap_uses.specs.LeastFirst.{IsLeast}
 pub use Rattle.dary_heap_uses.specs.Merging.{IsCut, head, heads_of, joined}
 pub use Rattle.dary_heap_uses.specs.Routes.{HasTooLong, IsMap, IsRoad, IsRoute, IsShortest, along, miles_of}
-pub use Rattle.dary_heap_uses.specs.Scheduling.{IsNumbered, IsTaken, waiting}
+pub use Rattle.dary_heap_uses.specs.Scheduling.{IsNumbered, IsTaken, added}
 pub use Rattle.dary_heap_uses.specs.Simulation.{Agenda, IsRun, NeverGoesBack, Step, pushes_bound, scheduled_in, steps_bound}
 pub use Rattle.dary_heap_uses.specs.Timers.{IsEarliest, Timers}
 pub use Rattle.dary_heap_uses.specs.declared.roads.Road.{Road}

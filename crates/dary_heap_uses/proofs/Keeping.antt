@@ -58,7 +58,7 @@ module _ {X : Type 0} {cmp : X → X → Ordering} (total : IsTotalOrder cmp) (k
         ];
       }
 
-  -- the same three of a heap of items in Reverse
+  -- the same of a heap of items in Reverse
   pub pushed : (x : X) (reversed : Reverse X) (old new : List (Reverse X)) → reversed.0 ≡ x → KeepsGreatest cmp k items (values old) → length old < k → IsSameBag (reversed ∷ old) new → KeepsGreatest cmp k (items ++ x ∷ []) (values new)
   pushed x reversed old new is h room bag =
       let count : length (values old) ≡ length old = length-map old (λ r. r.0) in

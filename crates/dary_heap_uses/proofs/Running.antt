@@ -25,7 +25,7 @@ pushed_more {old} {new = new} n k many before push =
     } in
     subst (λ (count : ℕ). RisesWithin old new (pushes_bound n count)) next fact
 
--- how many events wait after these steps, where n waited
+-- how many events wait after these steps, if n waited before
 abbrev pub waits_after : ℕ → List Step → ℕ
 waits_after n [] = n
 waits_after n (step ∷ steps) = waits_after (n - 1 + length step.scheduled) steps

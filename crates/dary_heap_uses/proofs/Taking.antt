@@ -31,7 +31,7 @@ module _ {now : ℕ} {set left before after : List Timer} (h : IsTaking now set 
       in_order = IsNonDecreasingBy-push moment_of h.taken timer h.in_order (λ d some.
           let last = get_or h.taken (length h.taken - 1) d in
           let under = All-get_or (λ (t : Timer). All (λ (other : Timer). t.moment ≤ other.moment) left) h.taken (length h.taken - 1) d (omega arith) h.none_before in
-          All-contains (λ (other : Timer). last.moment ≤ other.moment) left timer under earliest.set);
+          All-contains (λ (other : Timer). last.moment ≤ other.moment) left timer under earliest.is_set);
       none_early = All-push (λ (t : Timer). t.moment ≤ now) h.taken timer h.none_early due;
       none_before = All-push (λ (t : Timer). All (λ (other : Timer). t.moment ≤ other.moment) rest) h.taken timer
           (All-weaker (λ (t : Timer). All (λ (other : Timer). t.moment ≤ other.moment) left) (λ (t : Timer). All (λ (other : Timer). t.moment ≤ other.moment) rest) (λ t all. still (λ (other : Timer). t.moment ≤ other.moment) all) h.taken h.none_before)

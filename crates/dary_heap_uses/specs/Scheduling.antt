@@ -11,8 +11,8 @@ pub record Schedule (J : Type 0) : Type 0 where
   pub room : ℕ
 
 -- a job that waits at a priority, if so many were added before it
-abbrev pub waiting : {J : Type 0} → ℕ → ℕ → J → Waiting J
-waiting priority number job = record { priority = priority; number = record { 0 = number }; job = job }
+abbrev pub added : {J : Type 0} → ℕ → ℕ → J → Waiting J
+added priority number job = record { priority = priority; number = record { 0 = number }; job = job }
 
 -- no two have one number, and each number is below this one
 pub record IsNumbered {J : Type 0} (jobs : List (Waiting J)) (came : ℕ) : Type 0 where

@@ -12,7 +12,7 @@ pub record Timers : Type 0 where
 
 -- the timer is set, and none is set for an earlier moment
 pub record IsEarliest (timers : List Timer) (timer : Timer) : Type 0 where
-  pub set : Contains timers timer
+  pub is_set : Contains timers timer
   pub none_before : All (λ other. timer.moment ≤ other.moment) timers
 
 -- of the timers that were set, those that were due were taken, in this order, and these are left

@@ -32,8 +32,8 @@ pub fn take_from(heap: &mut TernaryHeap<u32>, bound: u32) -> Option<u32>
     }
 }
 
-/// Puts a number in the place of the greatest if it is less. So of all numbers that are offered, as many as
-/// the heap has stay, and they are the least.
+/// Puts a number in the place of the greatest if it is less. So of the heap's numbers and of all that are
+/// offered, the least stay, as many as the heap has.
 pub fn offer(least: &mut BinaryHeap<u32>, number: u32)
     ensures taken { (most : ℕ) → front least.old.items ≡ Some most → number < most
         → IsSameBag (number ∷ drop 1 least.old.items) least.new.items }
@@ -74,14 +74,14 @@ pub fn are_at_most<const D: usize>(heap: &DaryHeap<u32, D>, bound: u32) -> bool
     true
 }
 
-/// Returns the same, by an adapter.
+/// Returns the same as [`are_at_most`], by an adapter.
 pub fn are_at_most_by_all<const D: usize>(heap: &DaryHeap<u32, D>, bound: u32) -> bool
     ensures { IsTrue result ↔ All (λ number. number ≤ bound) heap.now.items }
 {
     heap.iter().all(|number| *number <= bound)
 }
 
-/// Takes the two greatest numbers out and drops the others.
+/// Returns the two greatest numbers, or `None` if there are fewer than two. The heap is empty afterwards.
 pub fn greatest_two<const D: usize>(heap: &mut DaryHeap<u32, D>) -> Option<(u32, u32)>
     ensures two { IsSome result ↔ (2 ≤ length heap.old.items) }
     ensures greatest { IfSome result (λ two. IsGreatest nat_cmp heap.old.items two.0) }

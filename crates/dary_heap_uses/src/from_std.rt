@@ -1,4 +1,4 @@
-//! Needs that std's `BinaryHeap` serves as well, as a caller of this heap meets them.
+//! Callers for whom this heap takes the place of std's `BinaryHeap`.
 ghost use Rattle.std.specs.BinaryHeap.{IsHeap, heap_items};
 ghost use Rattle.std.specs.Prelude.{◌≡◌, ◌+◌, ◌-◌, ◌<◌, ◌≤◌, ◌↔◌, [], ◌∷◌, ◌++◌, nat_lt, All, count_by, length, vec_len, IsOk, IsSome, IfSome, IfNone, IfOk, OnOk, OnErr};
 ghost use Rattle.dary_heap.specs.Bag.{IsSameBag};
@@ -8,8 +8,8 @@ use dary_heap::{BinaryHeap, DaryHeap};
 use std::alloc::{AllocError, Global};
 use std::{collections, mem};
 
-/// Adds a price. `?` makes `AllocError` of the error of std's push. This heap's returns the item, which
-/// `map_err` drops.
+/// Adds a price. Fails if memory allocation fails, and nothing has changed then. `?` makes `AllocError` of the
+/// error of std's push; that of this heap's is the item, which `map_err` drops.
 pub fn add_price(prices: &mut BinaryHeap<u32>, price: u32) -> Result<(), AllocError>
     ensures bag { OnOk result (IsSameBag (price ∷ prices.old.items) prices.new.items) }
     ensures unchanged { OnErr result (prices.new ≡ prices.old) }
@@ -64,7 +64,7 @@ pub fn range(prices: Vec<u32>) -> Option<(u32, u32)>
     Some((sorted[0], sorted[sorted.len() - 1]))
 }
 
-/// Returns the prices from the highest down, by one pop after another.
+/// Returns the prices from the highest down, by one pop after another. Fails if memory allocation fails.
 pub fn falling(alloc: Global, prices: BinaryHeap<u32>) -> Result<Vec<u32>, AllocError>
     ensures bag { IfOk result (λ list. IsSameBag prices.items list.items) }
     ensures falls { IfOk result (λ list. Falls list.items) }
@@ -105,7 +105,7 @@ fn keep_below(prices: &mut BinaryHeap<u32>, limit: u32)
     prices.retain(|price| *price <= limit);
 }
 
-/// Moves all prices of one heap into another and returns how many there are then.
+/// Moves all prices of one heap into another and returns how many there are then. If it fails, neither changes.
 pub fn join(prices: &mut BinaryHeap<u32>, others: &mut BinaryHeap<u32>) -> Result<usize, AllocError>
     ensures bag { OnOk result (IsSameBag (prices.old.items ++ others.old.items) prices.new.items) }
     ensures emptied { OnOk result (others.new.items ≡ []) }
@@ -117,7 +117,7 @@ pub fn join(prices: &mut BinaryHeap<u32>, others: &mut BinaryHeap<u32>) -> Resul
     Ok(prices.len())
 }
 
-/// Makes a heap of std's heap, whose vector stays as it is.
+/// Makes a heap of std's heap, which must be heap ordered (a precondition). The vector stays as it is.
 pub fn moved<T: Ord>(heap: collections::BinaryHeap<T>) -> BinaryHeap<T>
     requires { IsHeap T.cmp (heap_items heap) }
     ensures { result.items ≡ heap_items heap }
@@ -133,7 +133,7 @@ pub fn as_std<T: Ord>(heap: BinaryHeap<T>) -> Vec<T>
     heap.into_vec()
 }
 
-/// Takes all items out of a heap, which is as a new one then.
+/// Takes all items out of a heap, which is as a new one then. If it fails, nothing has changed.
 pub fn take_all<T: Ord, const D: usize>(
     heap: &mut DaryHeap<T, D>,
 ) -> Result<DaryHeap<T, D>, AllocError>

@@ -15,8 +15,8 @@ use std::cmp::Reverse;
 /// item comes out first. Fails if memory allocation fails, and drops all items then.
 ///
 /// No item that is left out is strictly greater than one that is kept. Of equal items any may stay. For
-/// each item it makes one comparison with the least that is kept, and in the heap at most as many as a
-/// push onto `k` items and a pop from `k` take.
+/// each item it makes at most one comparison with the least that is kept, and in the heap at most as many
+/// as a push onto `k` items and a pop from `k` take.
 ///
 /// # Examples
 ///

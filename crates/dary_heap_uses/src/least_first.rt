@@ -1,6 +1,6 @@
 //! A heap that gives the least item first: a heap of `Reverse`, whose caller meets the items themselves.
 //! A clause sees it as the `Contents` of a heap, whose `items` are a bag: their order says nothing.
-ghost use Rattle.std.specs.Prelude.{◌≡◌, ◌-◌, ◌<◌, ◌≤◌, ◌↔◌, [], ◌∷◌, length, map, IsOk, IfErr, OnOk, OnErr, IsSome, IfSome, IfNone};
+ghost use Rattle.std.specs.Prelude.{◌≡◌, ◌<◌, ◌≤◌, ◌↔◌, [], ◌∷◌, length, map, IsOk, IfErr, OnOk, OnErr, IsSome, IfSome, IfNone};
 ghost use Rattle.dary_heap.specs.Bag.{IsSameBag};
 ghost use Rattle.dary_heap.specs.Bounds.{RisesWithin, push_bound, pop_bound};
 ghost use Rattle.dary_heap.specs.Contents.{Contents};
@@ -69,7 +69,7 @@ impl<T: Ord, const D: usize> LeastFirst<T, D> {
         }
     }
 
-    /// Adds an item, with as many comparisons as a push onto a heap may take. Fails with the item if all
+    /// Adds an item, with no more comparisons than a push onto a heap may take. Fails with the item if all
     /// room is in use and memory allocation fails. Then the heap is as it was.
     pub fn push(&mut self, item: T) -> Result<(), T>
         ensures bag { OnOk result (IsSameBag (item ∷ self.old.items) self.new.items) }
@@ -89,8 +89,8 @@ impl<T: Ord, const D: usize> LeastFirst<T, D> {
         }
     }
 
-    /// Removes a least item and returns it, or `None` if there is no item. It makes as many comparisons
-    /// as a pop from a heap may take.
+    /// Removes a least item and returns it, or `None` if there is no item. It makes no more comparisons
+    /// than a pop from a heap may take.
     pub fn pop(&mut self) -> Option<T>
         ensures variant { IsSome result ↔ (0 < length self.old.items) }
         ensures least { IfSome result (IsLeast T.cmp self.old.items) }

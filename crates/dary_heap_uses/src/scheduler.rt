@@ -2,7 +2,7 @@
 //! a number that counts up, and the number stands beside the priority.
 ghost use Rattle.std.specs.Prelude.{◌≡◌, ◌+◌, ◌<◌, ◌≤◌, ◌↔◌, [], ◌∷◌, length, IsTrue, IsOk, IfOk, IfErr, OnOk, OnErr, IsSome, IfSome, IfNone};
 ghost use Rattle.dary_heap.specs.Bag.{IsSameBag};
-ghost use Rattle.dary_heap_uses.specs.Scheduling.{Schedule, IsNumbered, IsTaken, waiting};
+ghost use Rattle.dary_heap_uses.specs.Scheduling.{Schedule, IsNumbered, IsTaken, added};
 
 use dary_heap::QuaternaryHeap;
 use std::alloc::{AllocError, Global};
@@ -15,7 +15,7 @@ use std::marker::Model;
 pub struct Waiting<J> {
     /// The greater, the sooner.
     pub priority: u32,
-    /// How many jobs came before it. Of one priority the least number is the greatest.
+    /// How many jobs came before it. Of jobs of one priority that with the least number is the greatest.
     pub number: Reverse<u64>,
     /// What is to be done.
     #[derive_where(skip)]
@@ -52,11 +52,7 @@ impl<J> Model for Scheduler<J> {
 }
 
 impl<J> Scheduler<J> {
-    /// Returns a scheduler without jobs, with room for `room` of them.
-    ///
-    /// # Errors
-    ///
-    /// Returns `AllocError` if memory allocation fails.
+    /// Returns a scheduler without jobs, with room for `room` of them. Fails if memory allocation fails.
     #[tactic(auto, using(crate::proofs::Scheduling::numbered_none))]
     pub fn with_room(alloc: Global, room: usize) -> Result<Scheduler<J>, AllocError>
     where
@@ -96,7 +92,7 @@ impl<J> Scheduler<J> {
     pub fn add(&mut self, priority: u32, job: J) -> Result<(), J>
         requires { self.old.came < u64.MAX }
         ensures waits { OnOk result
-            (IsSameBag (waiting priority self.old.came job ∷ self.old.waiting) self.new.waiting) }
+            (IsSameBag (added priority self.old.came job ∷ self.old.waiting) self.new.waiting) }
         ensures came { OnOk result (self.new.came ≡ self.old.came + 1) }
         ensures room { self.new.room ≡ self.old.room }
         ensures succeeds { length self.old.waiting < self.old.room → IsOk result }

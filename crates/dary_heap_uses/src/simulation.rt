@@ -76,7 +76,7 @@ impl Simulation {
         }
     }
 
-    /// Returns the present moment: that of the event that was handled last. No event that waits is before it.
+    /// Returns the present moment: that of the last event handled, or 0. No event that waits is before it.
     pub fn moment(&self) -> u64
         ensures moment { result ≡ self.now.moment }
         ensures none_before { All (λ event. self.now.moment ≤ event.moment) self.now.waiting }

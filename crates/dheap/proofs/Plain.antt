@@ -27,7 +27,7 @@ module _ (P : ℕ → Type 0) (plus : P 43) (minus : P 45) (digit : (c : ℕ) �
   in_count [] h = All-nil P
   in_count (c ∷ cs) h = after_sign c cs false (c == 43) (λ e. absurd (true≢false (sym e))) (eqb-true c 43) h
 
--- so what is no text is neither
+-- so what isn't UTF-8 is neither a number nor a count
 pub no_number : (word : List ℕ) → ¬ (IsUtf8 word) → ¬ (IsNumber word)
 no_number word not is = not (IsUtf8-from_ascii word (IsAscii-from_all word (in_number (λ c. c < 128) (omega arith) (omega arith) (λ c range. omega (arith, range)) word is.0)))
 

@@ -36,13 +36,13 @@ passed-on (Some x) (Some y) (Some z) held left told p q e = ap (λ l. z ++ l) e 
 pub all_answered : {D : ℕ} (replies : List (Reply ℤ D)) → AllWithin (λ r. IsAnswered (read.reply r)) replies 0 (length replies) → All IsAnswered (read.replies replies)
 all_answered replies h = All-map IsAnswered read.reply replies (All-from_all_within (λ r. IsAnswered (read.reply r)) replies h)
 
--- what is printed where each reply has an answer
+-- what is printed if each reply has an answer
 pub printed_by : {E : Type 0} (may : List ℕ → Type 0) (a b : Option (List ℕ)) (says : List ℕ) (answered : Type 0) (result : Result (Unit {0}) E)
     → OnOk result answered → OnOk result (Appends a b says) → (answered → may says) → OnOk result ((printed : List ℕ) × may printed × Appends a b printed)
 printed_by may a b says answered (Err e) whole written law = tt
 printed_by may a b says answered (Ok u) whole written law = (says, law whole, written)
 
--- what might have been printed where the output failed
+-- what might have been printed if the output failed
 pub printable_by : (may : List ℕ → Type 0) (says : List ℕ) (answered : Type 0) (result : Result (Unit {0}) Fault)
     → IfErr result (λ fault. status_of fault ≡ 4 → answered) → (answered → may says) → IfErr result (λ fault. status_of fault ≡ 4 → (printed : List ℕ) × may printed)
 printable_by may says answered (Err e) ran law = λ four. (says, law (ran four))

@@ -13,7 +13,7 @@ use Rattle.dheap.specs.declared.serve.line.Line.{Line}
 abbrev pub AsksAtLeast : ℤ → ℤ → Bool → ℤ → Type 0
 AsksAtLeast n x answer after = (answer ≡ int_le n x) × (after ≡ n)
 
--- this may be printed for a script: the answers to the replies that the bag machine, from the empty bag, may give to the commands of its lines, where each has one
+-- this may be printed for a script: the answers to the replies that the bag machine, from the empty bag, may give to the commands of its lines, if each reply has one
 abbrev pub MayPrint : List ℕ → List ℕ → Type 0
 MayPrint script printed = (lines : List Line) × (commands : List (Command ℤ ℤ)) × (replies : List (Reply ℤ)) × (states : List (List ℤ))
     × Say (lines_of script) lines × CarryOut (λ n bound. bound ≡ n) commands lines × Steps int_cmp AsksAtLeast [] commands replies states

@@ -1,5 +1,5 @@
 //! One run of the program, over any streams.
-ghost use Rattle.std.specs.Prelude.{◌≡◌, ◌⊎◌, ◌+◌, ◌-◌, ◌*◌, ◌/◌, ◌%◌, ◌<◌, ◌≤◌, ◌↔◌, ◌++◌, ◌∷◌, ℕ, List, [], All, map, codes, is_some, option_to_list, string_bytes, true, drop, IfOk, IfSome, IfNone, IfErr, OnOk, MatchOption};
+ghost use Rattle.std.specs.Prelude.{◌≡◌, ◌⊎◌, ◌+◌, ◌-◌, ◌/◌, ◌%◌, ◌<◌, ◌≤◌, ◌↔◌, ◌++◌, ◌∷◌, ℕ, List, [], All, map, codes, is_some, option_to_list, string_bytes, true, drop, IfOk, IfSome, IfNone, IfErr, OnOk, MatchOption};
 ghost use Rattle.std.specs.Fmt.{decimal, sign_text, signed_decimal};
 ghost use Rattle.std.specs.Io.KnownBytes.{Appends, Keeps, IsAtEnd};
 ghost use Rattle.dary_heap.specs.Reading as read;
@@ -191,7 +191,7 @@ fn commands<const D: usize, P: FnMut(&i64) -> bool + Drop, F: Fn(i64) -> P>(
     Ok(commands)
 }
 
-/// Reads the first line, unless it is bad, and gives what comes after its line feed.
+/// Reads the first line and returns it with what comes after its line feed, or `None` if it is bad.
 fn read_line(script: &[u8]) -> Option<(Line, Option<&[u8]>)>
     ensures bad { IfNone result ((text : List ℕ) × (rest : List (List ℕ))
         × (lines_of script.now ≡ text ∷ rest) × ((line : Line) → ¬ (Says (words_of text) line))) }
@@ -236,8 +236,8 @@ fn command<const D: usize, P: FnMut(&i64) -> bool, F: Fn(i64) -> P>(
     }
 }
 
-/// Writes a line for each reply, up to the first that says that there was no memory. That fault came in the
-/// run, and so before any of the output.
+/// Writes a line for each reply, up to the first that says that there was no memory. If there is such a
+/// reply, it fails with `NoMemory` even if the output failed too, for the memory was missing before.
 fn write_replies<W: Write, const D: usize>(
     alloc: Global,
     replies: &[Reply<i64, D>],

@@ -24,7 +24,7 @@ pub(crate) fn start<V: Env, R: Read, W: Write, E: Write>(
     }
 }
 
-/// The arguments after the program's own name. One that isn't UTF-8 or is longer than any arity is an empty
+/// The arguments after the program's own name. One that isn't UTF-8 or is longer than 256 bytes is an empty
 /// word; `std::env::args` would fail as a whole.
 fn words<V: Env>(env: &V, alloc: Global) -> Result<Vec<String>, AllocError> {
     let mut words = Vec::new(alloc);

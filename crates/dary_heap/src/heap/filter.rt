@@ -1,5 +1,5 @@
 //! Items that leave a heap by a predicate, or all at once.
-ghost use Rattle.std.specs.Prelude.{◌≡◌, ◌<◌, ◌≤◌, [], ◌∷◌, length, slice_get, vec_capacity, Some, List, Bool, IfSome, IfNone, if◌then◌else◌, None};
+ghost use Rattle.std.specs.Prelude.{◌≡◌, ◌≤◌, [], ◌∷◌, length, slice_get, vec_capacity, Some, List, Bool, IfSome, IfNone, if◌then◌else◌, None};
 ghost use Rattle.std.specs.Fn.{CalledAt, FnOnceTakesAt, FnOnceReturnsAt};
 ghost use Rattle.std.specs.List.{items_where_true};
 ghost use Rattle.std.specs.List.Retain.{ReturnsInTurn};

@@ -1,5 +1,5 @@
 //! Many items that come into a heap at once.
-ghost use Rattle.std.specs.Prelude.{◌≡◌, ◌+◌, ◌-◌, ◌<◌, ◌≤◌, ◌++◌, [], length, min, List, map, vec_len, vec_capacity, IsOk, OnOk, OnErr, MatchResult, ⊤};
+ghost use Rattle.std.specs.Prelude.{◌≡◌, ◌+◌, ◌<◌, ◌≤◌, ◌++◌, [], length, min, List, map, vec_len, vec_capacity, IsOk, OnOk, OnErr, MatchResult, ⊤};
 ghost use Rattle.std.specs.Bool.{OnFalse};
 ghost use Rattle.std.specs.Iterator.{ExtendsWithItems, Drains, HoldsAlong, IsFinite};
 ghost use Rattle.dary_heap.specs.Appending.{receiving_capacity, moving_capacity};

@@ -5,7 +5,7 @@ use Rattle.dheap.proofs.Bounds.{may_print_by}
 use Rattle.dheap.proofs.Written.{printed_by, printable_by}
 use Rattle.dheap.proofs.serve.answer.Goals as goal
 
--- the predicate of a `test` may be asked about any number
+-- each predicate may be called on any number
 pub run-requires : goal.run-requires
 run-requires g c = (lit< tt, (lit< tt, (lit< tt, all_callable _ _ _ (search of_calls))))
 

@@ -15,7 +15,7 @@ returns-clause-earliest c =
     let items = c.self.inside.waiting.items in
     let greatest = c.in_ok-timer.ensures.greatest in
     rw (← c.self.view_is) record {
-      set = Contains-map (λ (r : Reverse Timer). r.0) items c.in_ok-timer.field-0 greatest.occurs;
+      is_set = Contains-map (λ (r : Reverse Timer). r.0) items c.in_ok-timer.field-0 greatest.occurs;
       none_before = reversed_least_key (λ (t : Timer). t.moment) no_later items c.in_ok-timer.field-0 greatest;
     }
 
