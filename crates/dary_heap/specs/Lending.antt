@@ -3,14 +3,12 @@ use Rattle.std.specs.Prelude.{◌≡◌, ℕ, Vec, vec_capacity, slice_set, true
 use Rattle.std.specs.Borrow.{Fml, RattleType, MutBor, Lends}
 use Rattle.std.specs.Vec.{with_item}
 use Rattle.std.specs.declared.alloc.Global.{Global}
-use Rattle.std.specs.declared.cmp.Ord as ord
-use Rattle.std.specs.declared.cmp.PartialEq as eq
-use Rattle.std.specs.declared.cmp.PartialOrd as partial_ord
 use Rattle.std.proofs.Common.{ap}
 use Rattle.std.specs.contracts.alloc.Global as global
 use Rattle.std.specs.contracts.vec.Vec as vec
 use Rattle.std.specs.contracts.impls.GlobalAllocator.TheImpl as global_impl
 use Rattle.dary_heap.specs.Loan.{IsLent, IsLent-prop, IsLent-written}
+use Rattle.dary_heap.specs.declared.sift.judge.Judge as judge
 use Rattle.dary_heap.specs.declared.peek_mut.PeekMut.{PeekMut}
 use Rattle.dary_heap.specs.contracts.peek_mut.PeekMut.{the_row}
 use Rattle.dary_heap.specs.contracts.peek_mut.held.VecHeld.TheImpl as held_impl
@@ -18,10 +16,10 @@ use denote.Param.{value_of}
 use mathlib.Core.List.{[]}
 use mir.Syntax.{named}
 
-module _ {X : Type 0} (D : ℕ) (o : ord.Ghosts X) (e : eq.Ghosts X) (p : partial_ord.Ghosts X) where
+module _ {X J : Type 0} (D : ℕ) (j : judge.Ghosts J X) where
   -- a loan of a heap's vector
   abbrev pub Loan : Type 0
-  Loan = PeekMut X D (Vec X Global) o e p (record { list = λ v. v.items; room = λ v. vec_capacity v })
+  Loan = PeekMut X D J (Vec X Global) j (record { list = λ v. v.items; room = λ v. vec_capacity v })
 
   -- the loan once w is written to the first item
   abbrev pub with_first : Loan → X → Loan
@@ -29,18 +27,18 @@ module _ {X : Type 0} (D : ℕ) (o : ord.Ghosts X) (e : eq.Ghosts X) (p : partia
     heap = loan.heap;
     items = with_item loan.items 0 w;
     written = true;
-    lent = IsLent-written o.cmp D loan.written loan.items.items w loan.lent;
+    lent = IsLent-written j.order D loan.written loan.items.items w loan.lent;
   }
 
   -- whichever proof of `IsLent` it has: any two are the same
-  pub with_first-is : (loan : Loan) (w : X) (q : IsLent o.cmp D true (slice_set loan.items.items 0 w)) → record (with_first loan w) { lent = q } ≡ with_first loan w
-  with_first-is loan w q = ap (λ it. record (with_first loan w) { lent = it }) (IsLent-prop o.cmp D true (slice_set loan.items.items 0 w) q (with_first loan w).lent)
+  pub with_first-is : (loan : Loan) (w : X) (q : IsLent j.order D true (slice_set loan.items.items 0 w)) → record (with_first loan w) { lent = q } ≡ with_first loan w
+  with_first-is loan w q = ap (λ it. record (with_first loan w) { lent = it }) (IsLent-prop j.order D true (slice_set loan.items.items 0 w) q (with_first loan w).lent)
 
-module _ (T D : RattleType) (o : ord.Ghosts T.Denot) (e : eq.Ghosts T.Denot) (p : partial_ord.Ghosts T.Denot) where
+module _ (T D J : RattleType) (j : judge.Ghosts J.Denot T.Denot) where
   -- a loan as the logic holds it, under the signature's second lifetime
   abbrev pub loan_row : RattleType
-  loan_row = the_row (record { mir = named 1; lft = [] }) T D (vec.the_row T global.the_row global_impl.ghosts) o e p (held_impl.ghosts T)
+  loan_row = the_row (record { mir = named 1; lft = [] }) T D J (vec.the_row T global.the_row global_impl.ghosts) j (held_impl.ghosts T)
 
   -- once the borrow r ends, the loan has the last value written through r as its first item
   abbrev pub lends_first : MutBor loan_row.Denot → MutBor T.Denot → Fml
-  lends_first loan r = Lends loan_row T loan r (with_first {X = T.Denot} (value_of D) o e p loan.now)
+  lends_first loan r = Lends loan_row T loan r (with_first {X = T.Denot} {J = J.Denot} (value_of D) j loan.now)

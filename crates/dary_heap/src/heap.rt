@@ -7,11 +7,12 @@ ghost use Rattle.std.specs.BinaryHeap.{IsUpperBound};
 ghost use Rattle.std.specs.Option.{option_copied};
 ghost use Rattle.dary_heap.specs.Bag.{IsSameBag, IsGreatest};
 ghost use Rattle.dary_heap.specs.Bounds.{RisesWithin, push_bound, pop_bound};
-ghost use Rattle.dary_heap.specs.Contents.{Contents};
+ghost use Rattle.dary_heap.specs.Contents.{Contents, contents_of};
 ghost use Rattle.dary_heap.specs.HeapOrder.{IsHeapOrdered};
+ghost use Rattle.dary_heap.specs.Popping.{IsPop};
 ghost use Rattle.dary_heap.specs.State.{front, front_with};
 
-use crate::sift::{ByOrd, pop_with, push_with};
+use crate::sift::{ByOrd, Judge, pop_with, push_with};
 use std::alloc::Global;
 use std::marker::Model;
 
@@ -40,7 +41,8 @@ mod join;
 /// assert_eq!(rt; scores.pop(), None);
 /// ```
 ///
-/// Items in `Reverse` come out least first:
+/// Items in `Reverse` come out least first. [`with_judge`](DaryHeap::with_judge) makes a heap that compares by
+/// another [`Judge`] than [`ByOrd`], so in any order of your own.
 ///
 /// ```
 /// use dary_heap::TernaryHeap;
@@ -63,21 +65,21 @@ mod join;
 /// assert_eq!(rt; heap.push("cook"), Ok(()));
 /// ```
 #[derive(Drop)]
-pub struct DaryHeap<T: Ord, const D: usize> {
+pub struct DaryHeap<T, const D: usize, J: Judge<T> = ByOrd> {
     pub(crate) items: Vec<T>,
-    pub(crate) judge: ByOrd,
+    pub(crate) judge: J,
 }
 
-impl<T: Ord, const D: usize> Model for DaryHeap<T, D> {
+impl<T, const D: usize, J: Judge<T>> Model for DaryHeap<T, D, J> {
     ghost Value = { Contents T };
 
     ghost view = { λ heap. record {
       items = heap.items.items;
       capacity = vec_capacity heap.items;
-      comparisons = heap.judge;
+      comparisons = J.count heap.judge;
     } };
 
-    ghost invariant = { λ heap. IsHeapOrdered T.cmp D heap.items.items };
+    ghost invariant = { λ heap. IsHeapOrdered J.order D heap.items.items };
 }
 
 /// A heap of arity 2, which is also the arity of std's `BinaryHeap`.
@@ -119,10 +121,51 @@ impl<T: Ord, const D: usize> DaryHeap<T, D> {
         ensures capacity { result.capacity ≡ 0 }
         ensures uncounted { result.comparisons ≡ 0 }
     {
+        DaryHeap::with_judge(alloc, ByOrd::new())
+    }
+}
+
+impl<T, const D: usize, J: Judge<T>> DaryHeap<T, D, J> {
+    /// Returns an empty heap that compares by a judge: any order of your own. Takes *O*(1), without a
+    /// comparison.
+    ///
+    /// # Examples
+    ///
+    /// ```
+    /// use dary_heap::DaryHeap;
+    /// use dary_heap::sift::{ByOrd, LeastFirst};
+    /// let mut heap = DaryHeap::<_, 3, _>::with_judge(alloc, LeastFirst(ByOrd::new()));
+    /// heap.push(5)?;
+    /// heap.push(1)?;
+    /// assert_eq!(rt; heap.peek(), Some(&1));
+    /// ```
+    pub fn with_judge(alloc: Global, judge: J) -> Self
+        ensures items { result.items ≡ [] }
+        ensures capacity { result.capacity ≡ 0 }
+        ensures comparisons { result.comparisons ≡ J.count judge }
+    {
         DaryHeap {
             items: Vec::new(alloc),
-            judge: ByOrd::new(),
+            judge,
         }
+    }
+
+    /// Returns the judge by which the heap compares, as to read its count. Makes no comparison.
+    ///
+    /// # Examples
+    ///
+    /// ```
+    /// use dary_heap::DaryHeap;
+    /// use dary_heap::sift::Tally;
+    /// let mut heap = DaryHeap::<_, 2, _>::with_judge(alloc, Tally::new());
+    /// heap.push(5)?;
+    /// heap.push(9)?;
+    /// assert_eq!(rt; heap.judge().made(), 1);
+    /// ```
+    pub fn judge(&self) -> &J
+        ensures { J.count result.now ≡ self.now.comparisons }
+    {
+        &self.judge
     }
 
     /// Returns the number of items. Takes *O*(1), without a comparison.
@@ -136,7 +179,7 @@ impl<T: Ord, const D: usize> DaryHeap<T, D> {
     /// ```
     pub fn len(&self) -> usize
         ensures len { result ≡ length self.now.items }
-        ensures ordered { IsHeapOrdered T.cmp D self.now.items }
+        ensures ordered { IsHeapOrdered J.order D self.now.items }
     {
         self.items.len()
     }
@@ -152,7 +195,7 @@ impl<T: Ord, const D: usize> DaryHeap<T, D> {
     /// ```
     pub fn is_empty(&self) -> bool
         ensures empty { result ≡ (length self.now.items == 0) }
-        ensures ordered { IsHeapOrdered T.cmp D self.now.items }
+        ensures ordered { IsHeapOrdered J.order D self.now.items }
     {
         self.items.is_empty()
     }
@@ -190,7 +233,7 @@ impl<T: Ord, const D: usize> DaryHeap<T, D> {
     /// ```
     pub fn as_slice(&self) -> &[T]
         ensures items { result.now ≡ self.now.items }
-        ensures ordered { IsHeapOrdered T.cmp D self.now.items }
+        ensures ordered { IsHeapOrdered J.order D self.now.items }
     {
         self.items.as_slice()
     }
@@ -210,9 +253,9 @@ impl<T: Ord, const D: usize> DaryHeap<T, D> {
     pub fn peek(&self) -> Option<&T>
         ensures variant { IsSome result ↔ (0 < length self.now.items) }
         ensures first { option_copied result ≡ slice_get self.now.items 0 }
-        ensures greatest { IfSome result (λ item. IsGreatest T.cmp self.now.items item.now) }
-        ensures above_all { IfSome result (λ item. IsUpperBound T.cmp item.now self.now.items) }
-        ensures ordered { IsHeapOrdered T.cmp D self.now.items }
+        ensures greatest { IfSome result (λ item. IsGreatest J.order self.now.items item.now) }
+        ensures above_all { IfSome result (λ item. IsUpperBound J.order item.now self.now.items) }
+        ensures ordered { IsHeapOrdered J.order D self.now.items }
     {
         self.items.as_slice().first()
     }
@@ -241,12 +284,12 @@ impl<T: Ord, const D: usize> DaryHeap<T, D> {
     pub fn push(&mut self, item: T) -> Result<(), T>
         ensures bag { OnOk result (IsSameBag (item ∷ self.old.items) self.new.items) }
         ensures first { OnOk result
-            (front self.new.items ≡ Some (front_with T.cmp item (front self.old.items))) }
+            (front self.new.items ≡ Some (front_with J.order item (front self.old.items))) }
         ensures counted { OnOk result (RisesWithin self.old.comparisons self.new.comparisons
             (push_bound D (length self.old.items))) }
         ensures len { length self.new.items ≡ length self.old.items
             + (if is_ok result then 1 else 0) }
-        ensures ordered { IsHeapOrdered T.cmp D self.new.items }
+        ensures ordered { IsHeapOrdered J.order D self.new.items }
         ensures capacity { self.old.capacity ≤ self.new.capacity }
         ensures kept { length self.old.items < self.old.capacity
             → self.new.capacity ≡ self.old.capacity }
@@ -257,7 +300,7 @@ impl<T: Ord, const D: usize> DaryHeap<T, D> {
         ensures returned { IfErr result (λ back. back ≡ item) }
         ensures unchanged { OnErr result (self.new ≡ self.old) }
     {
-        push_with::<T, ByOrd, D>(&mut self.items, item, &mut self.judge)
+        push_with::<T, J, D>(&mut self.items, item, &mut self.judge)
     }
 
     /// Removes a greatest item and returns it, or returns `None` if the heap is empty.
@@ -279,11 +322,11 @@ impl<T: Ord, const D: usize> DaryHeap<T, D> {
     pub fn pop(&mut self) -> Option<T>
         ensures variant { IsSome result ↔ (0 < length self.old.items) }
         ensures first { result ≡ slice_get self.old.items 0 }
-        ensures greatest { IfSome result (IsGreatest T.cmp self.old.items) }
-        ensures below_top { IfSome result (λ item. IsUpperBound T.cmp item self.new.items) }
+        ensures greatest { IfSome result (IsGreatest J.order self.old.items) }
+        ensures below_top { IfSome result (λ item. IsUpperBound J.order item self.new.items) }
         ensures bag { IfSome result (λ item. IsSameBag self.old.items (item ∷ self.new.items)) }
         ensures len { length self.new.items ≡ length self.old.items - 1 }
-        ensures ordered { IsHeapOrdered T.cmp D self.new.items }
+        ensures ordered { IsHeapOrdered J.order D self.new.items }
         ensures counted { RisesWithin self.old.comparisons self.new.comparisons
             (pop_bound D (length self.old.items)) }
         ensures capacity { self.new.capacity ≡ self.old.capacity }
@@ -291,6 +334,19 @@ impl<T: Ord, const D: usize> DaryHeap<T, D> {
         // If there is no item nothing changes.
         ensures unchanged { IfNone result (self.new ≡ self.old) }
     {
-        pop_with::<T, ByOrd, D>(&mut self.items, &mut self.judge)
+        pop_ordered::<T, J, D>(&mut self.items, &mut self.judge)
     }
+}
+
+/// Removes a greatest item of a heap's vector and returns it, as [`DaryHeap::pop`] does.
+#[inline(always)]
+pub(crate) fn pop_ordered<T, J: Judge<T>, const D: usize>(
+    items: &mut Vec<T>,
+    judge: &mut J,
+) -> Option<T>
+    requires { IsHeapOrdered J.order D items.old.items }
+    ensures { IsPop J.order D (contents_of items.old (J.count judge.old)) result
+        (contents_of items.new (J.count judge.new)) }
+{
+    pop_with::<T, J, D>(items, judge)
 }

@@ -8,7 +8,7 @@
 ghost use Rattle.dary_heap.specs.Loan.{IsLent, IsLent-prop, IsExceeded};
 
 use crate::heap::DaryHeap;
-use crate::sift::{ByOrd, sink_with};
+use crate::sift::{ByOrd, Judge, sink_with};
 use held::Held;
 use std::mem;
 
@@ -37,14 +37,14 @@ mod methods;
 /// assert_eq!(rt; heap.as_slice(), [2, 1, 0].as_slice());
 /// ```
 // The type of `items` is a parameter, which callers leave out, for the reason that `Held` gives.
-pub struct PeekMut<'a, T: Ord, const D: usize, I: Held<T> = Vec<T>> {
-    heap: &'a mut DaryHeap<T, D>,
+pub struct PeekMut<'a, T, const D: usize, J: Judge<T> = ByOrd, I: Held<T> = Vec<T>> {
+    heap: &'a mut DaryHeap<T, D, J>,
     items: I,
     written: bool,
-    ghost lent: { IsLent T.cmp D written (I.list items) } by { IsLent-prop _ _ _ (I.list items) },
+    ghost lent: { IsLent J.order D written (I.list items) } by { IsLent-prop _ _ _ (I.list items) },
 }
 
-impl<'a, T: Ord + Drop, const D: usize, I: Held<T>> Drop for PeekMut<'a, T, D, I> {
+impl<'a, T: Drop, const D: usize, J: Judge<T>, I: Held<T>> Drop for PeekMut<'a, T, D, J, I> {
     ghost use Rattle.std.specs.Prelude.{◌≡◌, ◌+◌, false, length};
     ghost use Rattle.dary_heap.specs.Bag.{IsSameBag};
     ghost use Rattle.dary_heap.specs.Bounds.{RisesWithin, pop_bound, sink_bound};
@@ -55,7 +55,7 @@ impl<'a, T: Ord + Drop, const D: usize, I: Held<T>> Drop for PeekMut<'a, T, D, I
     fn drop(self)
         ensures bag { IsSameBag (loaned self.entry).items self.exit.0.now.items }
         ensures len { length self.exit.0.now.items ≡ length (loaned self.entry).items }
-        ensures ordered { IsHeapOrdered T.cmp D self.exit.0.now.items }
+        ensures ordered { IsHeapOrdered J.order D self.exit.0.now.items }
         ensures counted { RisesWithin (loaned self.entry).comparisons self.exit.0.now.comparisons
             (sink_bound D (length (loaned self.entry).items)) }
         ensures capacity { self.exit.0.now.capacity ≡ (loaned self.entry).capacity }
@@ -65,9 +65,9 @@ impl<'a, T: Ord + Drop, const D: usize, I: Held<T>> Drop for PeekMut<'a, T, D, I
             (pop_bound D (length (loaned self.entry).items) + 1) }
 
         // What no other item exceeds stays the first, and then no item moves.
-        ensures first { (IsExceeded T.cmp (loaned self.entry).items → ⊥)
+        ensures first { (IsExceeded J.order (loaned self.entry).items → ⊥)
             → front self.exit.0.now.items ≡ front (loaned self.entry).items }
-        ensures unmoved { (IsExceeded T.cmp (loaned self.entry).items → ⊥)
+        ensures unmoved { (IsExceeded J.order (loaned self.entry).items → ⊥)
             → self.exit.0.now.items ≡ (loaned self.entry).items }
 
         // If nothing was written, or one item is alone, nothing changes and nothing is compared.
@@ -81,7 +81,7 @@ impl<'a, T: Ord + Drop, const D: usize, I: Held<T>> Drop for PeekMut<'a, T, D, I
         } = self;
         let mut items = items.into_vec();
         if written {
-            sink_with::<T, ByOrd, D>(items.as_mut_slice(), &mut heap.judge);
+            sink_with::<T, J, D>(items.as_mut_slice(), &mut heap.judge);
         }
         mem::swap(&mut heap.items, &mut items);
     }

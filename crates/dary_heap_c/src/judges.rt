@@ -1,6 +1,4 @@
 //! The judges by which the algorithms compare.
-ghost use Rattle.std.specs.Cmp.{back_total};
-ghost use Rattle.std.specs.Ordering.{flip_args};
 ghost use Rattle.std.specs.Prelude.{◌≡◌};
 ghost use Rattle.dary_heap_c.specs.Keys.{by_key, by_key-total, key_then_earlier, key_then_earlier-total, key_then_later, key_then_later-total, total_order, total_order-total, total_order_key};
 
@@ -100,32 +98,5 @@ impl Judge<u64> for ByKey {
 
     fn at_most(&mut self, a: &u64, b: &u64) -> bool {
         self.keys.at_most(&key_of(*a), &key_of(*b))
-    }
-}
-
-/// Judges as another judge does, with the two items exchanged, so that the least comes first.
-#[derive(Drop)]
-pub struct LeastFirst<J> {
-    judge: J,
-}
-
-impl<J> LeastFirst<J> {
-    /// The judge that exchanges the items for this one.
-    pub fn new(judge: J) -> LeastFirst<J>
-        ensures { result.judge ≡ judge }
-    {
-        LeastFirst { judge }
-    }
-}
-
-impl<T, J: Judge<T>> Judge<T> for LeastFirst<J> {
-    ghost order = { flip_args J.order };
-
-    ghost count = { λ judge. J.count judge.judge };
-
-    ghost total = { back_total J.total };
-
-    fn at_most(&mut self, a: &T, b: &T) -> bool {
-        self.judge.at_most(b, a)
     }
 }

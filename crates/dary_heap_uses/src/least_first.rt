@@ -1,14 +1,14 @@
-//! A heap that gives the least item first: a heap of `Reverse`, whose caller meets the items themselves.
-//! A clause sees it as the `Contents` of a heap, whose `items` are a bag: their order says nothing.
-ghost use Rattle.std.specs.Prelude.{◌≡◌, ◌<◌, ◌≤◌, ◌↔◌, [], ◌∷◌, length, map, IsOk, IfErr, OnOk, OnErr, IsSome, IfSome, IfNone};
+//! A heap that gives the least item first: a heap whose judge has the items' order the other way round.
+//! A clause sees it as the `Contents` of a heap.
+ghost use Rattle.std.specs.Prelude.{◌≡◌, ◌<◌, ◌≤◌, ◌↔◌, [], ◌∷◌, length, IsOk, IfErr, OnOk, OnErr, IsSome, IfSome, IfNone};
 ghost use Rattle.dary_heap.specs.Bag.{IsSameBag};
 ghost use Rattle.dary_heap.specs.Bounds.{RisesWithin, push_bound, pop_bound};
 ghost use Rattle.dary_heap.specs.Contents.{Contents};
 ghost use Rattle.dary_heap_uses.specs.LeastFirst.{IsLeast};
 
-use dary_heap::DaryHeap;
+use dary_heap::sift::ByOrd;
+use dary_heap::{DaryHeap, sift};
 use std::alloc::Global;
-use std::cmp::Reverse;
 use std::marker::Model;
 
 /// A heap whose least item comes out first.
@@ -26,17 +26,13 @@ use std::marker::Model;
 /// ```
 #[derive(Drop)]
 pub struct LeastFirst<T: Ord, const D: usize> {
-    reversed: DaryHeap<Reverse<T>, D>,
+    heap: DaryHeap<T, D, sift::LeastFirst<ByOrd>>,
 }
 
 impl<T: Ord, const D: usize> Model for LeastFirst<T, D> {
     ghost Value = { Contents T };
 
-    ghost view = { λ heap. record {
-      items = map (λ r. r.0) heap.reversed.items;
-      capacity = heap.reversed.capacity;
-      comparisons = heap.reversed.comparisons;
-    } };
+    ghost view = { λ it. it.heap };
 }
 
 impl<T: Ord, const D: usize> LeastFirst<T, D> {
@@ -47,7 +43,7 @@ impl<T: Ord, const D: usize> LeastFirst<T, D> {
         ensures uncounted { result.comparisons ≡ 0 }
     {
         LeastFirst {
-            reversed: DaryHeap::new(alloc),
+            heap: DaryHeap::with_judge(alloc, sift::LeastFirst(ByOrd::new())),
         }
     }
 
@@ -55,7 +51,7 @@ impl<T: Ord, const D: usize> LeastFirst<T, D> {
     pub fn len(&self) -> usize
         ensures { result ≡ length self.now.items }
     {
-        self.reversed.len()
+        self.heap.len()
     }
 
     /// Returns a least item, or `None` if there is no item.
@@ -63,10 +59,7 @@ impl<T: Ord, const D: usize> LeastFirst<T, D> {
         ensures variant { IsSome result ↔ (0 < length self.now.items) }
         ensures least { IfSome result (λ item. IsLeast T.cmp self.now.items item.now) }
     {
-        match self.reversed.peek() {
-            Some(Reverse(item)) => Some(item),
-            None => None,
-        }
+        self.heap.peek()
     }
 
     /// Adds an item, with no more comparisons than a push onto a heap may take. Fails with the item if all
@@ -83,10 +76,7 @@ impl<T: Ord, const D: usize> LeastFirst<T, D> {
         ensures returned { IfErr result (λ back. back ≡ item) }
         ensures unchanged { OnErr result (self.new ≡ self.old) }
     {
-        match self.reversed.push(Reverse(item)) {
-            Ok(()) => Ok(()),
-            Err(Reverse(item)) => Err(item),
-        }
+        self.heap.push(item)
     }
 
     /// Removes a least item and returns it, or `None` if there is no item. It makes no more comparisons
@@ -100,7 +90,6 @@ impl<T: Ord, const D: usize> LeastFirst<T, D> {
         ensures capacity { self.new.capacity ≡ self.old.capacity }
         ensures unchanged { IfNone result (self.new ≡ self.old) }
     {
-        let Reverse(item) = self.reversed.pop()?;
-        Some(item)
+        self.heap.pop()
     }
 }

@@ -3,6 +3,7 @@
 #![tactic(auto)]
 
 pub mod calling;
+pub mod deadlines;
 pub mod exchange;
 pub mod from_std;
 pub mod greatest;

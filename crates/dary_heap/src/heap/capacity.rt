@@ -3,7 +3,7 @@ ghost use Rattle.std.specs.Prelude.{◌≡◌, ◌≤◌, [], length, max, IfOk,
 ghost use Rattle.dary_heap.specs.Room.{Reserves, ReservesExactly, Shrinks};
 
 use super::DaryHeap;
-use crate::sift::ByOrd;
+use crate::sift::{ByOrd, Judge};
 use std::alloc::{AllocError, Global};
 
 impl<T: Ord, const D: usize> DaryHeap<T, D> {
@@ -32,7 +32,9 @@ impl<T: Ord, const D: usize> DaryHeap<T, D> {
             judge: ByOrd::new(),
         })
     }
+}
 
+impl<T, const D: usize, J: Judge<T>> DaryHeap<T, D, J> {
     /// Reserves room for at least `additional` more items. Makes no comparison.
     ///
     /// After `Ok` that many pushes allocate no memory, and don't fail. If there is room already, it does nothing.
@@ -51,7 +53,7 @@ impl<T: Ord, const D: usize> DaryHeap<T, D> {
     /// assert!(rt; heap.capacity() >= 100);
     /// ```
     pub fn reserve(&mut self, additional: usize) -> Result<(), AllocError>
-        ensures { Reserves T.cmp D additional self.old self.new result }
+        ensures { Reserves J.order D additional self.old self.new result }
     {
         self.items.reserve(additional)
     }
@@ -72,7 +74,7 @@ impl<T: Ord, const D: usize> DaryHeap<T, D> {
     /// assert_eq!(rt; heap.capacity(), 100);
     /// ```
     pub fn reserve_exact(&mut self, additional: usize) -> Result<(), AllocError>
-        ensures { ReservesExactly T.cmp D additional self.old self.new result }
+        ensures { ReservesExactly J.order D additional self.old self.new result }
     {
         self.items.reserve_exact(additional)
     }
@@ -92,7 +94,7 @@ impl<T: Ord, const D: usize> DaryHeap<T, D> {
     /// assert!(rt; heap.capacity() >= 3);
     /// ```
     pub fn try_reserve(&mut self, additional: usize) -> Result<(), AllocError>
-        ensures { Reserves T.cmp D additional self.old self.new result }
+        ensures { Reserves J.order D additional self.old self.new result }
     {
         self.reserve(additional)
     }
@@ -112,7 +114,7 @@ impl<T: Ord, const D: usize> DaryHeap<T, D> {
     /// assert_eq!(rt; heap.capacity(), 3);
     /// ```
     pub fn try_reserve_exact(&mut self, additional: usize) -> Result<(), AllocError>
-        ensures { ReservesExactly T.cmp D additional self.old self.new result }
+        ensures { ReservesExactly J.order D additional self.old self.new result }
     {
         self.reserve_exact(additional)
     }
@@ -134,7 +136,7 @@ impl<T: Ord, const D: usize> DaryHeap<T, D> {
     /// assert_eq!(rt; heap.capacity(), 10);
     /// ```
     pub fn shrink_to(&mut self, min_capacity: usize) -> Result<(), AllocError>
-        ensures { Shrinks T.cmp D
+        ensures { Shrinks J.order D
             (max (length self.old.items) min_capacity) self.old self.new result }
     {
         let wanted = self.items.len().max(min_capacity);
@@ -161,7 +163,7 @@ impl<T: Ord, const D: usize> DaryHeap<T, D> {
     /// assert_eq!(rt; heap.capacity(), 1);
     /// ```
     pub fn shrink_to_fit(&mut self) -> Result<(), AllocError>
-        ensures { Shrinks T.cmp D (length self.old.items) self.old self.new result }
+        ensures { Shrinks J.order D (length self.old.items) self.old self.new result }
     {
         self.shrink_to(0)
     }

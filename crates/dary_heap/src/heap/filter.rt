@@ -10,9 +10,9 @@ ghost use Rattle.dary_heap.specs.Filtering.{IsRetained, first_no};
 ghost use Rattle.dary_heap.specs.HeapOrder.{IsHeapOrdered};
 
 use super::DaryHeap;
-use crate::sift::{ByOrd, mend_with};
+use crate::sift::{Judge, mend_with};
 
-impl<T: Ord, const D: usize> DaryHeap<T, D> {
+impl<T, const D: usize, J: Judge<T>> DaryHeap<T, D, J> {
     /// Removes a greatest item and returns it, if the predicate returns `true` for it.
     ///
     /// The predicate is called once, on the item that [`peek`](DaryHeap::peek) returns, and not at all on an empty
@@ -39,10 +39,10 @@ impl<T: Ord, const D: usize> DaryHeap<T, D> {
             × FnOnceReturnsAt F.FnOnce predicate item answer
             × (result ≡ (if answer then Some item else None)) }
         ensures shown { (item : T) → slice_get self.old.items 0 ≡ Some item
-            → IsGreatest T.cmp self.old.items item }
-        ensures greatest { IfSome result (IsGreatest T.cmp self.old.items) }
+            → IsGreatest J.order self.old.items item }
+        ensures greatest { IfSome result (IsGreatest J.order self.old.items) }
         ensures bag { IfSome result (λ item. IsSameBag self.old.items (item ∷ self.new.items)) }
-        ensures ordered { IsHeapOrdered T.cmp D self.new.items }
+        ensures ordered { IsHeapOrdered J.order D self.new.items }
         ensures counted { RisesWithin self.old.comparisons self.new.comparisons
             (pop_bound D (length self.old.items)) }
         ensures capacity { self.new.capacity ≡ self.old.capacity }
@@ -82,11 +82,11 @@ impl<T: Ord, const D: usize> DaryHeap<T, D> {
         requires { TakesInTurn F.FnMut f self.old.items }
         ensures retained { IsRetained (CalledAt F.FnMut) D f self.old self.new }
         ensures len { length self.new.items ≤ length self.old.items }
-        ensures ordered { IsHeapOrdered T.cmp D self.new.items }
+        ensures ordered { IsHeapOrdered J.order D self.new.items }
         ensures capacity { self.new.capacity ≡ self.old.capacity }
     {
         let start = keep(&mut self.items, f);
-        mend_with::<T, ByOrd, D>(self.items.as_mut_slice(), start, &mut self.judge);
+        mend_with::<T, J, D>(self.items.as_mut_slice(), start, &mut self.judge);
     }
 
     /// Drops all items. The capacity stays the same. Makes no comparison.

@@ -9,12 +9,12 @@ ghost use Rattle.dary_heap.specs.Extending.{IsExtended, IsExtendedUntilRefused, 
 ghost use Rattle.dary_heap.specs.HeapOrder.{IsHeapOrdered};
 
 use super::DaryHeap;
-use crate::sift::{ByOrd, mend_with};
+use crate::sift::{Judge, mend_with};
 use core::mem::replace_with;
 use std::alloc::AllocError;
 use std::mem;
 
-impl<T: Ord, const D: usize> DaryHeap<T, D> {
+impl<T, const D: usize, J: Judge<T>> DaryHeap<T, D, J> {
     /// Moves all items of `other` into this heap, and leaves `other` empty.
     ///
     /// The items of the shorter heap go behind those of the longer one: if `other` is the longer, the two exchange
@@ -42,8 +42,8 @@ impl<T: Ord, const D: usize> DaryHeap<T, D> {
         ensures emptied { OnOk result (other.new.items ≡ []) }
         ensures len { OnOk result
             (length self.new.items ≡ length self.old.items + length other.old.items) }
-        ensures ordered { IsHeapOrdered T.cmp D self.new.items }
-        ensures other_ordered { IsHeapOrdered T.cmp D other.new.items }
+        ensures ordered { IsHeapOrdered J.order D self.new.items }
+        ensures other_ordered { IsHeapOrdered J.order D other.new.items }
         ensures counted { OnOk result (RisesWithin self.old.comparisons self.new.comparisons
             (mend_bound D (length self.new.items)
             (min (length self.old.items) (length other.old.items)))) }
@@ -71,20 +71,20 @@ impl<T: Ord, const D: usize> DaryHeap<T, D> {
                 return Err(AllocError);
             };
         }
-        take_in::<T, D>(&mut self.items, &mut other.items, &mut self.judge);
+        take_in::<T, J, D>(&mut self.items, &mut other.items, &mut self.judge);
         Ok(())
     }
 }
 
 /// Moves the items of `others` behind those of a heap that has room for them, and mends.
-fn take_in<T: Ord, const D: usize>(items: &mut Vec<T>, others: &mut Vec<T>, judge: &mut ByOrd)
+fn take_in<T, J: Judge<T>, const D: usize>(items: &mut Vec<T>, others: &mut Vec<T>, judge: &mut J)
     requires { vec_len items.old + vec_len others.old ≤ vec_capacity items.old }
     ensures bag { IsSameBag (items.old.items ++ others.old.items) items.new.items }
     ensures emptied { others.new.items ≡ [] }
     ensures same_items { others.old.items ≡ [] → items.new.items ≡ items.old.items }
-    ensures ordered { IsHeapOrdered T.cmp D items.old.items
-        → IsHeapOrdered T.cmp D items.new.items }
-    ensures counted { RisesWithin judge.old judge.new
+    ensures ordered { IsHeapOrdered J.order D items.old.items
+        → IsHeapOrdered J.order D items.new.items }
+    ensures counted { RisesWithin (J.count judge.old) (J.count judge.new)
         (mend_bound D (vec_len items.new) (vec_len others.old)) }
     ensures capacity { vec_capacity items.old ≤ vec_capacity items.new }
     ensures other_capacity { vec_capacity others.new ≡ vec_capacity others.old }
@@ -93,7 +93,7 @@ fn take_in<T: Ord, const D: usize>(items: &mut Vec<T>, others: &mut Vec<T>, judg
     let Ok(()) = items.append(others) else {
         unreachable!()
     };
-    mend_with::<T, ByOrd, D>(items.as_mut_slice(), start, judge);
+    mend_with::<T, J, D>(items.as_mut_slice(), start, judge);
 }
 
 /// What an iterator gives for an item: the item itself, or a reference to one, which is copied.
@@ -188,21 +188,21 @@ fn push_all<T: Drop, X: Element<T>, I: Iterator<Item = X>>(
 }
 
 /// Pushes what the iterator gives, up to the first item that there is no memory for, and mends.
-fn extend_heap<T: Ord + Drop, X: Element<T>, U: IntoIterator<Item = X>, const D: usize>(
-    heap: &mut DaryHeap<T, D>,
+fn extend_heap<T: Drop, X: Element<T>, U: IntoIterator<Item = X>, const D: usize, J: Judge<T>>(
+    heap: &mut DaryHeap<T, D, J>,
     iter: U,
 ) -> Result<(), AllocError>
     requires { (it : U.IntoIter) → U.into_iter_gives iter it → U.IntoIter.can_next it
         × IsFinite (U.IntoIter.remaining it) }
     ensures ran { ExtendsWithItems U.into_iter_gives U.IntoIter.next_gives
-        (λ old xs new. IsExtended T.cmp D old (map X.value xs) new) iter heap.old heap.new result }
+        (λ old xs new. IsExtended J.order D old (map X.value xs) new) iter heap.old heap.new result }
     ensures refused { OnErr result (IsExtendedUntilRefused U.into_iter_gives U.IntoIter.next_gives
-        X.value T.cmp D iter heap.old heap.new) }
+        X.value J.order D iter heap.old heap.new) }
 {
     let start = heap.items.len();
     let iter = iter.into_iter();
     let outcome = push_all(&mut heap.items, iter);
-    mend_with::<T, ByOrd, D>(heap.items.as_mut_slice(), start, &mut heap.judge);
+    mend_with::<T, J, D>(heap.items.as_mut_slice(), start, &mut heap.judge);
     outcome
 }
 
@@ -228,16 +228,16 @@ fn extend_heap<T: Ord + Drop, X: Element<T>, U: IntoIterator<Item = X>, const D:
 /// heap.extend([9, 8])?;
 /// assert_eq!(rt; heap.as_slice(), [9, 8, 2, 1, 3].as_slice());
 /// ```
-impl<T: Ord + Drop, const D: usize> Extend<T> for DaryHeap<T, D> {
-    ghost extend_gives = { λ old xs new. IsExtended T.cmp D old xs new };
+impl<T: Drop, const D: usize, J: Judge<T>> Extend<T> for DaryHeap<T, D, J> {
+    ghost extend_gives = { λ old xs new. IsExtended J.order D old xs new };
 
     fn extend<U: IntoIterator<Item = T>>(&mut self, iter: U) -> Result<(), AllocError>
         requires { (it : U.IntoIter) → U.into_iter_gives iter it → U.IntoIter.can_next it
             × IsFinite (U.IntoIter.remaining it) × HoldsAlong U.IntoIter.next_gives it (λ xs. ⊤) }
         ensures ran { ExtendsWithItems U.into_iter_gives U.IntoIter.next_gives
-            (λ old xs new. IsExtended T.cmp D old xs new) iter self.old self.new result }
+            (λ old xs new. IsExtended J.order D old xs new) iter self.old self.new result }
         ensures refused { OnErr result (IsExtendedUntilRefused U.into_iter_gives
-            U.IntoIter.next_gives (λ item. item) T.cmp D iter self.old self.new) }
+            U.IntoIter.next_gives (λ item. item) J.order D iter self.old self.new) }
     {
         extend_heap(self, iter)
     }
@@ -253,17 +253,17 @@ impl<T: Ord + Drop, const D: usize> Extend<T> for DaryHeap<T, D> {
 /// heap.extend(&[9, 8])?;
 /// assert_eq!(rt; heap.pop(), Some(9));
 /// ```
-impl<'a, T: Ord + Copy + 'a, const D: usize> Extend<&'a T> for DaryHeap<T, D> {
-    ghost extend_gives = { λ old xs new. IsExtended T.cmp D old (map (λ item. item.now) xs) new };
+impl<'a, T: Copy + 'a, const D: usize, J: Judge<T>> Extend<&'a T> for DaryHeap<T, D, J> {
+    ghost extend_gives = { λ old xs new. IsExtended J.order D old (map (λ item. item.now) xs) new };
 
     fn extend<U: IntoIterator<Item = &'a T>>(&mut self, iter: U) -> Result<(), AllocError>
         requires { (it : U.IntoIter) → U.into_iter_gives iter it → U.IntoIter.can_next it
             × IsFinite (U.IntoIter.remaining it) × HoldsAlong U.IntoIter.next_gives it (λ xs. ⊤) }
         ensures ran { ExtendsWithItems U.into_iter_gives U.IntoIter.next_gives
-            (λ old xs new. IsExtended T.cmp D old (map (λ item. item.now) xs) new)
+            (λ old xs new. IsExtended J.order D old (map (λ item. item.now) xs) new)
             iter self.old self.new result }
         ensures refused { OnErr result (IsExtendedUntilRefused U.into_iter_gives
-            U.IntoIter.next_gives (λ item. item.now) T.cmp D iter self.old self.new) }
+            U.IntoIter.next_gives (λ item. item.now) J.order D iter self.old self.new) }
     {
         extend_heap(self, iter)
     }

@@ -7,6 +7,7 @@ ghost use Rattle.dary_heap.specs.Sizes.{HintsExactly};
 
 use super::IntoIter;
 use crate::heap::DaryHeap;
+use crate::sift::Judge;
 use std::iter::FusedIterator;
 use std::{fmt, mem};
 
@@ -32,7 +33,7 @@ pub struct Drain<'a, T> {
     left: &'a mut [T],
 }
 
-impl<T: Ord, const D: usize> DaryHeap<T, D> {
+impl<T, const D: usize, J: Judge<T>> DaryHeap<T, D, J> {
     ghost use Rattle.dary_heap.specs.Drain.{drain_rest, drain_lender, leaves_emptied};
 
     /// Removes all items, and returns an iterator over them, in the order in which they were
@@ -51,7 +52,7 @@ impl<T: Ord, const D: usize> DaryHeap<T, D> {
     /// ```
     pub fn drain(&mut self) -> Drain<'_, T>
         // Once the iterator is gone the heap has no items, no room and the same count.
-        ensures* emptied { sem 𝓛 (leaves_emptied T.row D.row T.Ord.own T.PartialEq T.PartialOrd.own
+        ensures* emptied { sem 𝓛 (leaves_emptied T.row D.row J.row J.Judge
             self.entry (drain_lender result)) }
         ensures items { drain_rest result ≡ self.old.items }
         ensures fits { length (drain_rest result) < 2 ^ 64 }

@@ -1,12 +1,13 @@
 //! The iterator that pops the items of a heap and leaves it empty.
-ghost use Rattle.std.specs.Prelude.{◌≡◌, ◌^◌, ◌<◌, [], length, Some};
+ghost use Rattle.std.specs.Prelude.{◌≡◌, ◌^◌, ◌<◌, [], length, Some, vec_capacity};
 ghost use Rattle.std.specs.Iterator.{item_count};
 ghost use Rattle.dary_heap.specs.Sizes.{HintsExactly};
 ghost use Rattle.dary_heap.specs.Bounds.{RisesWithin, pops_bound};
 ghost use Rattle.dary_heap.specs.HeapOrder.{IsHeapOrdered};
 ghost use Rattle.dary_heap.specs.Popping.{GivesDescending};
 
-use crate::heap::DaryHeap;
+use crate::heap::{DaryHeap, pop_ordered};
+use crate::sift::{ByOrd, Judge};
 use std::fmt;
 use std::iter::FusedIterator;
 
@@ -25,11 +26,13 @@ use std::iter::FusedIterator;
 /// assert_eq!(rt; items.next(), Some(4));
 /// assert_eq!(rt; items.len(), 1);
 /// ```
-pub struct DrainSorted<'a, T: Ord + Drop, const D: usize> {
-    heap: &'a mut DaryHeap<T, D>,
+// Its methods call functions of the heap's fields: a call of the heap's own would have to know that a
+// heap with any judge has less than 2^63 bytes.
+pub struct DrainSorted<'a, T: Drop, const D: usize, J: Judge<T> = ByOrd> {
+    heap: &'a mut DaryHeap<T, D, J>,
 }
 
-impl<'a, T: Ord + Drop, const D: usize> Drop for DrainSorted<'a, T, D> {
+impl<'a, T: Drop, const D: usize, J: Judge<T>> Drop for DrainSorted<'a, T, D, J> {
     ghost use Rattle.dary_heap.specs.DrainSorted.{drained_heap};
 
     fn drop(self)
@@ -39,21 +42,22 @@ impl<'a, T: Ord + Drop, const D: usize> Drop for DrainSorted<'a, T, D> {
             self.exit.0.now.comparisons (pops_bound D (length (drained_heap self.entry).items)) }
     {
         let DrainSorted { heap } = self;
-        pop_all(heap);
+        pop_all::<T, J, D>(&mut heap.items, &mut heap.judge);
     }
 }
 
-/// Pops the items that a heap has left, and drops them.
-fn pop_all<T: Ord + Drop, const D: usize>(heap: &mut DaryHeap<T, D>)
-    ensures items { heap.new.items ≡ [] }
-    ensures capacity { heap.new.capacity ≡ heap.old.capacity }
-    ensures counted { RisesWithin heap.old.comparisons heap.new.comparisons
-        (pops_bound D (length heap.old.items)) }
+/// Pops the items that a heap's vector has left, and drops them.
+fn pop_all<T: Drop, J: Judge<T>, const D: usize>(items: &mut Vec<T>, judge: &mut J)
+    requires { IsHeapOrdered J.order D items.old.items }
+    ensures items { items.new.items ≡ [] }
+    ensures capacity { vec_capacity items.new ≡ vec_capacity items.old }
+    ensures counted { RisesWithin (J.count judge.old) (J.count judge.new)
+        (pops_bound D (length items.old.items)) }
 {
-    while let Some(_) = heap.pop() {}
+    while let Some(_) = pop_ordered::<T, J, D>(items, judge) {}
 }
 
-impl<T: Ord, const D: usize> DaryHeap<T, D> {
+impl<T, const D: usize, J: Judge<T>> DaryHeap<T, D, J> {
     ghost use Rattle.dary_heap.specs.DrainSorted.{drained_heap, drained_lender, DrainsSorted, KeepsHeapAlong};
 
     /// Returns an iterator that removes the items in descending order. It allocates no memory.
@@ -70,18 +74,18 @@ impl<T: Ord, const D: usize> DaryHeap<T, D> {
     /// assert_eq!(rt; heap.drain_sorted().next(), Some(5));
     /// assert!(rt; heap.is_empty());
     /// ```
-    pub fn drain_sorted(&mut self) -> DrainSorted<'_, T, D>
+    pub fn drain_sorted(&mut self) -> DrainSorted<'_, T, D, J>
     where
         T: Drop,
         ensures heap { drained_heap result ≡ self.old }
-        ensures ordered { IsHeapOrdered T.cmp D self.old.items }
+        ensures ordered { IsHeapOrdered J.order D self.old.items }
         ensures fits { length self.old.items < 2 ^ 64 }
         ensures same_reference { drained_lender result ≡ self.entry.ghost_name }
-        ensures stays { KeepsHeapAlong T.cmp result }
+        ensures stays { KeepsHeapAlong J.order result }
 
         // Calls of `next` give a greatest part of the items in descending order, each once, and up to
         // `None` all of them.
-        ensures descending { GivesDescending T.cmp (DrainsSorted T.cmp)
+        ensures descending { GivesDescending J.order (DrainsSorted J.order)
             (λ it. (drained_heap it).items) result }
     {
         // It ensures that the heap is ordered.
@@ -90,17 +94,18 @@ impl<T: Ord, const D: usize> DaryHeap<T, D> {
     }
 }
 
-impl<T: Ord + Drop, const D: usize> Iterator for DrainSorted<'_, T, D> {
+impl<T: Drop, const D: usize, J: Judge<T>> Iterator for DrainSorted<'_, T, D, J> {
     ghost use Rattle.dary_heap.specs.DrainSorted.{drained_heap, DrainsSorted};
 
     type Item = T;
 
-    ghost next_gives = { DrainsSorted T.cmp };
+    ghost next_gives = { DrainsSorted J.order };
 
     ghost remaining = { item_count (λ it. (drained_heap it).items) };
 
     fn next(&mut self) -> Option<T> {
-        self.heap.pop()
+        let heap = &mut *self.heap;
+        pop_ordered::<T, J, D>(&mut heap.items, &mut heap.judge)
     }
 
     fn size_hint(&self) -> (usize, Option<usize>)
@@ -111,16 +116,18 @@ impl<T: Ord + Drop, const D: usize> Iterator for DrainSorted<'_, T, D> {
     }
 }
 
-impl<T: Ord + Drop, const D: usize> ExactSizeIterator for DrainSorted<'_, T, D> {
+impl<T: Drop, const D: usize, J: Judge<T>> ExactSizeIterator for DrainSorted<'_, T, D, J> {
     fn len(&self) -> usize {
-        self.heap.len()
+        let heap = &*self.heap;
+        heap.items.len()
     }
 }
 
-impl<T: Ord + Drop, const D: usize> FusedIterator for DrainSorted<'_, T, D> {}
+impl<T: Drop, const D: usize, J: Judge<T>> FusedIterator for DrainSorted<'_, T, D, J> {}
 
-impl<T: Ord + Drop + fmt::Debug, const D: usize> fmt::Debug for DrainSorted<'_, T, D> {
+impl<T: Drop + fmt::Debug, const D: usize, J: Judge<T>> fmt::Debug for DrainSorted<'_, T, D, J> {
     fn fmt<W: fmt::Write>(&self, f: &mut fmt::Formatter<W>) -> fmt::Result {
-        f.debug_tuple("DrainSorted").field(&*self.heap).finish()
+        let heap = &*self.heap;
+        f.debug_tuple("DrainSorted").field(&heap.items).finish()
     }
 }

@@ -5,6 +5,7 @@ ghost use Rattle.std.specs.Iterator.Runs.{YieldsInOrder, YieldsInReverse};
 ghost use Rattle.dary_heap.specs.Sizes.{HintsExactly};
 
 use crate::heap::DaryHeap;
+use crate::sift::Judge;
 use std::alloc::AllocError;
 use std::collections::VecDeque;
 use std::fmt;
@@ -126,7 +127,7 @@ impl<T: fmt::Debug> fmt::Debug for IntoIter<T> {
 /// let items: Vec<i32> = heap.into_iter().collect(alloc)?;
 /// assert_eq!(rt; items.as_slice(), [3, 2, 1].as_slice());
 /// ```
-impl<T: Ord + Drop, const D: usize> IntoIterator for DaryHeap<T, D> {
+impl<T: Drop, const D: usize, J: Judge<T> + Drop> IntoIterator for DaryHeap<T, D, J> {
     type Item = T;
 
     type IntoIter = IntoIter<T>;

@@ -6,6 +6,7 @@ ghost use Rattle.std.specs.Iterator.Runs.{YieldsRefsInOrder, YieldsRefsInReverse
 ghost use Rattle.dary_heap.specs.Sizes.{HintsExactly};
 
 use crate::heap::DaryHeap;
+use crate::sift::Judge;
 use std::alloc::AllocError;
 use std::iter::FusedIterator;
 use std::marker::Model;
@@ -34,7 +35,7 @@ impl<'a, T> Model for Iter<'a, T> {
     ghost view = { λ it. iter_rest it.rest };
 }
 
-impl<T: Ord, const D: usize> DaryHeap<T, D> {
+impl<T, const D: usize, J: Judge<T>> DaryHeap<T, D, J> {
     /// Returns an iterator over references to the items, in the order in which they are stored.
     /// Makes no comparison.
     ///
@@ -156,7 +157,7 @@ impl<T: fmt::Debug> fmt::Debug for Iter<'_, T> {
 /// }
 /// assert_eq!(rt; sum, 6);
 /// ```
-impl<'a, T: Ord, const D: usize> IntoIterator for &'a DaryHeap<T, D> {
+impl<'a, T, const D: usize, J: Judge<T>> IntoIterator for &'a DaryHeap<T, D, J> {
     type Item = &'a T;
 
     type IntoIter = Iter<'a, T>;

@@ -3,11 +3,13 @@ ghost use Rattle.std.specs.Prelude.{◌≡◌, ◌^◌, ◌<◌, length, Some, C
 ghost use Rattle.std.specs.Iterator.{item_count};
 ghost use Rattle.dary_heap.specs.Sizes.{HintsExactly};
 ghost use Rattle.dary_heap.specs.Bounds.{RisesWithin, build_bound};
+ghost use Rattle.dary_heap.specs.Building.{IsCopyOf};
 ghost use Rattle.dary_heap.specs.Contents.{Contents};
 ghost use Rattle.dary_heap.specs.HeapOrder.{IsHeapOrdered};
 ghost use Rattle.dary_heap.specs.Popping.{IsPop, GivesDescending};
 
 use crate::heap::DaryHeap;
+use crate::sift::{ByOrd, Judge};
 use std::alloc::AllocError;
 use std::fmt;
 use std::iter::FusedIterator;
@@ -27,17 +29,17 @@ use std::marker::Model;
 /// assert_eq!(rt; items.next(), Some(4));
 /// ```
 #[derive(Drop)]
-pub struct IntoIterSorted<T: Ord, const D: usize> {
-    heap: DaryHeap<T, D>,
+pub struct IntoIterSorted<T, const D: usize, J: Judge<T> = ByOrd> {
+    heap: DaryHeap<T, D, J>,
 }
 
-impl<T: Ord, const D: usize> Model for IntoIterSorted<T, D> {
+impl<T, const D: usize, J: Judge<T>> Model for IntoIterSorted<T, D, J> {
     ghost Value = { Contents T };
 
     ghost view = { λ it. it.heap };
 }
 
-impl<T: Ord, const D: usize> DaryHeap<T, D> {
+impl<T, const D: usize, J: Judge<T>> DaryHeap<T, D, J> {
     /// Returns an iterator over the items in descending order. It allocates no memory.
     ///
     /// Equal items come in the order in which pops return them. The call takes no comparison, and
@@ -51,14 +53,14 @@ impl<T: Ord, const D: usize> DaryHeap<T, D> {
     /// let greatest: Vec<i32> = heap.into_iter_sorted().take(2).collect(alloc)?;
     /// assert_eq!(rt; greatest.as_slice(), [5, 4].as_slice());
     /// ```
-    pub fn into_iter_sorted(self) -> IntoIterSorted<T, D>
+    pub fn into_iter_sorted(self) -> IntoIterSorted<T, D, J>
         ensures heap { result ≡ self }
-        ensures ordered { IsHeapOrdered T.cmp D self.items }
+        ensures ordered { IsHeapOrdered J.order D self.items }
         ensures fits { length self.items < 2 ^ 64 }
 
         // Calls of `next` give a greatest part of the items in descending order, each once, and up to
         // `None` all of them.
-        ensures descending { GivesDescending T.cmp (IsPop T.cmp D) (λ heap. heap.items) result }
+        ensures descending { GivesDescending J.order (IsPop J.order D) (λ heap. heap.items) result }
     {
         // It ensures that the heap is ordered.
         let _ = self.as_slice();
@@ -100,10 +102,22 @@ impl<T: Ord, const D: usize> IntoIterSorted<T, D> {
     }
 }
 
-impl<T: Ord + Drop, const D: usize> Iterator for IntoIterSorted<T, D> {
+/// Copies what is left, for `derive(Clone)` and for a judge of another type than `ByOrd`, as the trait's
+/// `clone` of a [`DaryHeap`] does. Otherwise a call `items.clone()` is of [`IntoIterSorted::clone`].
+impl<T: Clone, const D: usize, J: Judge<T> + Clone> Clone for IntoIterSorted<T, D, J> {
+    ghost is_clone = { IsCopyOf T.is_clone J.is_clone J.count J.order D };
+
+    fn clone(&self) -> Result<Self, AllocError> {
+        Ok(IntoIterSorted {
+            heap: Clone::clone(&self.heap)?,
+        })
+    }
+}
+
+impl<T: Drop, const D: usize, J: Judge<T> + Drop> Iterator for IntoIterSorted<T, D, J> {
     type Item = T;
 
-    ghost next_gives = { IsPop T.cmp D };
+    ghost next_gives = { IsPop J.order D };
 
     ghost remaining = { item_count (λ heap. heap.items) };
 
@@ -119,15 +133,15 @@ impl<T: Ord + Drop, const D: usize> Iterator for IntoIterSorted<T, D> {
     }
 }
 
-impl<T: Ord + Drop, const D: usize> ExactSizeIterator for IntoIterSorted<T, D> {
+impl<T: Drop, const D: usize, J: Judge<T> + Drop> ExactSizeIterator for IntoIterSorted<T, D, J> {
     fn len(&self) -> usize {
         self.heap.len()
     }
 }
 
-impl<T: Ord + Drop, const D: usize> FusedIterator for IntoIterSorted<T, D> {}
+impl<T: Drop, const D: usize, J: Judge<T> + Drop> FusedIterator for IntoIterSorted<T, D, J> {}
 
-impl<T: Ord + fmt::Debug, const D: usize> fmt::Debug for IntoIterSorted<T, D> {
+impl<T: fmt::Debug, const D: usize, J: Judge<T>> fmt::Debug for IntoIterSorted<T, D, J> {
     fn fmt<W: fmt::Write>(&self, f: &mut fmt::Formatter<W>) -> fmt::Result {
         f.debug_tuple("IntoIterSorted").field(&self.heap).finish()
     }

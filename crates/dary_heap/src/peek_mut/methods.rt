@@ -12,11 +12,11 @@ ghost use Rattle.dary_heap.specs.contracts.heap.DaryHeap.{the_row as heap_row};
 
 use super::PeekMut;
 use crate::heap::DaryHeap;
-use crate::sift::{ByOrd, pop_with, sink_with};
+use crate::sift::{Judge, pop_with, sink_with};
 use std::ops::{Deref, DerefMut};
 use std::{fmt, mem};
 
-impl<T: Ord, const D: usize> DaryHeap<T, D> {
+impl<T, const D: usize, J: Judge<T>> DaryHeap<T, D, J> {
     /// Returns a greatest item for reading, writing or taking out, or `None` if the heap is empty.
     /// Makes no comparison.
     ///
@@ -34,16 +34,16 @@ impl<T: Ord, const D: usize> DaryHeap<T, D> {
     /// }
     /// assert_eq!(rt; heap.peek(), Some(&6));
     /// ```
-    pub fn peek_mut(&mut self) -> Option<PeekMut<'_, T, D>>
+    pub fn peek_mut(&mut self) -> Option<PeekMut<'_, T, D, J>>
         // If it returns `None` the heap stays as it is.
         ensures* unchanged { sem 𝓛 (RestsIfNone
-            (heap_row T.row D.row T.Ord.own T.PartialEq T.PartialOrd.own)
+            (heap_row T.row D.row J.row J.Judge)
             self.entry lender result (λ heap. heap ≡ self.old)) }
         ensures variant { IsSome result ↔ (0 < length self.old.items) }
         ensures loaned { IfSome result (λ loan. loaned loan ≡ self.old) }
         ensures unwritten { IfSome result (λ loan. is_written loan ≡ false) }
-        ensures greatest { IfSome result (λ loan. IsState T.cmp (loaned loan).items) }
-        ensures ordered { IfSome result (λ loan. IsHeapOrdered T.cmp D (loaned loan).items) }
+        ensures greatest { IfSome result (λ loan. IsState J.order (loaned loan).items) }
+        ensures ordered { IfSome result (λ loan. IsHeapOrdered J.order D (loaned loan).items) }
 
         // The loan's end leaves what it has to this heap, which is empty until then.
         ensures same_reference { IfSome result (λ loan. lender loan ≡ self.entry.ghost_name) }
@@ -63,7 +63,7 @@ impl<T: Ord, const D: usize> DaryHeap<T, D> {
     }
 }
 
-impl<'a, T: Ord + Drop, const D: usize> PeekMut<'a, T, D> {
+impl<'a, T: Drop, const D: usize, J: Judge<T>> PeekMut<'a, T, D, J> {
     /// Removes the item from the heap and returns it.
     ///
     /// The value is the one that was written last, even if another item is strictly greater. The heap's capacity
@@ -80,11 +80,11 @@ impl<'a, T: Ord + Drop, const D: usize> PeekMut<'a, T, D> {
     /// }
     /// assert_eq!(rt; heap.as_slice(), [2, 1].as_slice());
     /// ```
-    pub fn pop(this: PeekMut<'a, T, D>) -> T
+    pub fn pop(this: PeekMut<'a, T, D, J>) -> T
         ensures first { front (loaned this.entry).items ≡ Some result }
         ensures bag { IsSameBag (loaned this.entry).items (result ∷ this.exit.0.now.items) }
         ensures len { length this.exit.0.now.items ≡ length (loaned this.entry).items - 1 }
-        ensures ordered { IsHeapOrdered T.cmp D this.exit.0.now.items }
+        ensures ordered { IsHeapOrdered J.order D this.exit.0.now.items }
         ensures counted { RisesWithin (loaned this.entry).comparisons this.exit.0.now.comparisons
             (pop_bound D (length (loaned this.entry).items)) }
         ensures capacity { this.exit.0.now.capacity ≡ (loaned this.entry).capacity }
@@ -98,7 +98,7 @@ impl<'a, T: Ord + Drop, const D: usize> PeekMut<'a, T, D> {
             written: _,
         } = this;
         let mut items = items;
-        let item = pop_with::<T, ByOrd, D>(&mut items, &mut heap.judge).unwrap();
+        let item = pop_with::<T, J, D>(&mut items, &mut heap.judge).unwrap();
         mem::swap(&mut heap.items, &mut items);
         item
     }
@@ -121,11 +121,11 @@ impl<'a, T: Ord + Drop, const D: usize> PeekMut<'a, T, D> {
     /// }
     /// ```
     pub fn refresh(&mut self) -> bool
-        ensures moved { IsTrue result ↔ IsExceeded T.cmp (loaned self.old).items }
+        ensures moved { IsTrue result ↔ IsExceeded J.order (loaned self.old).items }
         ensures bag { IsSameBag (loaned self.old).items (loaned self.new).items }
         ensures len { length (loaned self.new).items ≡ length (loaned self.old).items }
-        ensures greatest { IsState T.cmp (loaned self.new).items }
-        ensures ordered { IsHeapOrdered T.cmp D (loaned self.new).items }
+        ensures greatest { IsState J.order (loaned self.new).items }
+        ensures ordered { IsHeapOrdered J.order D (loaned self.new).items }
         ensures settled { is_written self.new ≡ false }
         ensures counted { RisesWithin (loaned self.old).comparisons (loaned self.new).comparisons
             (sink_bound D (length (loaned self.old).items)) }
@@ -146,7 +146,7 @@ impl<'a, T: Ord + Drop, const D: usize> PeekMut<'a, T, D> {
             return false;
         }
         let heap = &mut *self.heap;
-        let moved = sink_with::<T, ByOrd, D>(self.items.as_mut_slice(), &mut heap.judge);
+        let moved = sink_with::<T, J, D>(self.items.as_mut_slice(), &mut heap.judge);
         self.written = false;
         moved
     }
@@ -161,7 +161,7 @@ impl<'a, T: Ord + Drop, const D: usize> PeekMut<'a, T, D> {
 /// let mut heap = BinaryHeap::from(vec![in alloc; 1, 5, 2]?);
 /// assert_eq!(rt; *heap.peek_mut().unwrap(), 5);
 /// ```
-impl<T: Ord, const D: usize> Deref for PeekMut<'_, T, D> {
+impl<T, const D: usize, J: Judge<T>> Deref for PeekMut<'_, T, D, J> {
     type Target = T;
 
     ghost deref_gives = { λ loan item. front (loaned loan).items ≡ Some item };
@@ -181,14 +181,14 @@ impl<T: Ord, const D: usize> Deref for PeekMut<'_, T, D> {
 /// *heap.peek_mut().unwrap() = 3;
 /// assert_eq!(rt; heap.as_slice(), [3, 1, 2].as_slice());
 /// ```
-impl<T: Ord, const D: usize> DerefMut for PeekMut<'_, T, D> {
+impl<T, const D: usize, J: Judge<T>> DerefMut for PeekMut<'_, T, D, J> {
     ghost use Rattle.dary_heap.specs.Lending.{lends_first};
 
     ghost deref_mut_gives = { λ loan item. front (loaned loan).items ≡ Some item };
 
     fn deref_mut(&mut self) -> &mut T
         ensures* writes_back { sem 𝓛
-            (lends_first T.row D.row T.Ord.own T.PartialEq T.PartialOrd.own self.entry result) }
+            (lends_first T.row D.row J.row J.Judge self.entry result) }
         ensures first { front (loaned self.old).items ≡ Some result.now }
     {
         self.written = true;
@@ -206,7 +206,7 @@ impl<T: Ord, const D: usize> DerefMut for PeekMut<'_, T, D> {
 /// let greatest = heap.peek_mut().unwrap();
 /// assert_eq!(rt; format!(in alloc; "{greatest:?}")?.as_str(), "PeekMut(5)");
 /// ```
-impl<T: Ord + fmt::Debug, const D: usize> fmt::Debug for PeekMut<'_, T, D> {
+impl<T: fmt::Debug, const D: usize, J: Judge<T>> fmt::Debug for PeekMut<'_, T, D, J> {
     fn fmt<W: fmt::Write>(&self, f: &mut fmt::Formatter<W>) -> fmt::Result {
         f.debug_tuple("PeekMut").field(&self.items[0]).finish()
     }

@@ -1,10 +1,11 @@
 //! Comparisons that are counted.
-ghost use Rattle.std.specs.Prelude.{◌≡◌, ℕ, ◌+◌, ◌-◌, ◌^◌, min};
+ghost use Rattle.std.specs.Prelude.{◌≡◌, ℕ, ◌+◌, ◌-◌, ◌^◌, min, ⊤};
 ghost use Rattle.std.specs.declared.cmp.Ordering.{Ordering};
-ghost use Rattle.std.specs.Ordering.{is_le};
-ghost use Rattle.std.specs.Cmp.{IsTotalOrder};
+ghost use Rattle.std.specs.Ordering.{is_le, flip_args};
+ghost use Rattle.std.specs.Cmp.{IsTotalOrder, back_total};
 ghost use Rattle.std.specs.Borrow.{ftrue};
 
+use std::alloc::AllocError;
 use std::marker::Model;
 
 /// A number that only clauses read. It takes no bytes.
@@ -37,7 +38,8 @@ impl Count {
 /// What compares items: it has an order on them, and a count of the comparisons that it made.
 ///
 /// The order belongs to the type of the judge, the count to each judge. Only clauses read them. A
-/// caller may write a judge of its own.
+/// caller may write a judge of its own. Give it `#[derive(Drop)]`: `into_vec` and other calls that
+/// take a heap apart drop its judge.
 ///
 /// # Examples
 ///
@@ -95,6 +97,17 @@ impl ByOrd {
         ByOrd {
             count: Count::new(),
         }
+    }
+}
+
+/// Returns a judge that made no comparison yet. It doesn't fail.
+impl Clone for ByOrd {
+    ghost is_clone = { λ _ copy. copy ≡ 0 };
+
+    ghost is_infallible = { λ _. ⊤ };
+
+    fn clone(&self) -> Result<Self, AllocError> {
+        Ok(ByOrd::new())
     }
 }
 
@@ -174,5 +187,32 @@ impl<T: Ord> Judge<T> for Tally {
         self.count.add_one();
         self.made = self.made.saturating_add(1);
         a.cmp(b).is_le()
+    }
+}
+
+/// Judges as another judge does, with the two items exchanged. So the least item comes out of a heap first.
+///
+/// # Examples
+///
+/// ```
+/// use dary_heap::DaryHeap;
+/// use dary_heap::sift::{ByOrd, LeastFirst};
+/// let mut heap = DaryHeap::<_, 4, _>::with_judge(alloc, LeastFirst(ByOrd::new()));
+/// heap.push(5)?;
+/// heap.push(2)?;
+/// assert_eq!(rt; heap.pop(), Some(2));
+/// ```
+#[derive(Clone, Drop)]
+pub struct LeastFirst<J>(pub J);
+
+impl<T, J: Judge<T>> Judge<T> for LeastFirst<J> {
+    ghost order = { flip_args J.order };
+
+    ghost count = { λ judge. J.count judge.0 };
+
+    ghost total = { back_total J.total };
+
+    fn at_most(&mut self, a: &T, b: &T) -> bool {
+        self.0.at_most(b, a)
     }
 }

@@ -6,17 +6,17 @@ use Rattle.dary_heap.specs.declared.iter.drain_sorted.DrainSorted.{DrainSorted}
 use Rattle.dary_heap.proofs.Order.{read}
 use Rattle.dary_heap.proofs.run.drain_sorted.Goals as goal
 
-module _ {X : Type 0} (cmp : X → X → Ordering) {D : ℕ} where
+module _ {X J : Type 0} (cmp : X → X → Ordering) {D : ℕ} where
   -- as many as were wanted, or all
-  drained_in_turn : IsTotalOrder cmp → (k : ℕ) (first : DrainSorted X D) (taken : List X) (later : DrainSorted X D) → Yields (DrainsSorted cmp) first taken later → length taken ≤ k → (length taken < k → (drained_heap later).items ≡ []) → PopsInTurn cmp (drained_heap first).items k taken
+  drained_in_turn : IsTotalOrder cmp → (k : ℕ) (first : DrainSorted X D J) (taken : List X) (later : DrainSorted X D J) → Yields (DrainsSorted cmp) first taken later → length taken ≤ k → (length taken < k → (drained_heap later).items ≡ []) → PopsInTurn cmp (drained_heap first).items k taken
   drained_in_turn total zero first [] later run few all = refl
   drained_in_turn total zero first (m ∷ taken) later run few all = absurd (omega arith)
-  drained_in_turn total (suc k) first [] later run few all = ap (λ (it : DrainSorted X D). (drained_heap it).items) run ∙ all (omega arith)
+  drained_in_turn total (suc k) first [] later run few all = ap (λ (it : DrainSorted X D J). (drained_heap it).items) run ∙ all (omega arith)
   drained_in_turn total (suc k) first (m ∷ taken) later run few all =
       let pop = run.1.0 in
       ((drained_heap run.0).items, (sym pop.first, pop.bag, ordered_state total D _ pop.ordered), drained_in_turn total k run.0 taken later run.2 (omega arith) (λ fewer. all (omega arith)))
 
-  drained_counts : (first : DrainSorted X D) (taken : List X) (later : DrainSorted X D) → Yields (DrainsSorted cmp) first taken later → (length taken + length (drained_heap later).items ≡ length (drained_heap first).items) × RisesWithin (drained_heap first).comparisons ((drained_heap later).comparisons + pops_bound D (length (drained_heap later).items)) (pops_bound D (length (drained_heap first).items)) × ((drained_heap first).comparisons ≤ (drained_heap later).comparisons)
+  drained_counts : (first : DrainSorted X D J) (taken : List X) (later : DrainSorted X D J) → Yields (DrainsSorted cmp) first taken later → (length taken + length (drained_heap later).items ≡ length (drained_heap first).items) × RisesWithin (drained_heap first).comparisons ((drained_heap later).comparisons + pops_bound D (length (drained_heap later).items)) (pops_bound D (length (drained_heap first).items)) × ((drained_heap first).comparisons ≤ (drained_heap later).comparisons)
   drained_counts first [] later run = rw run (omega arith, record { rises = omega arith; within = omega arith }, omega arith)
   drained_counts first (m ∷ taken) later run =
       let old = drained_heap first in

@@ -23,7 +23,7 @@ invariant_of-self g c =
     let n = c.keep-start.result in
     let same : take n c.as_mut_slice.result.now ≡ take (first_no k.0) xs = ap (take n) (is g c) ∙ ap (λ m. take m (items_where_true k.0 xs)) k.5 ∙ picked-front k.0 xs k.2 in
     let few : first_no k.0 ≤ length xs = omega (arith, first_no-within k.0, k.2) in
-    rw (written_back _ _ _ (all g c)) (c.mend_with.ensures.ordered (subst (IsHeapOrdered g.T.Ord.cmp g.row.D) (sym same) (front-ordered g.row.D (first_no k.0) xs few c.self.invariant)))
+    rw (written_back _ _ _ (all g c)) (c.mend_with.ensures.ordered (subst (IsHeapOrdered g.J.Judge.order g.row.D) (sym same) (front-ordered g.row.D (first_no k.0) xs few c.self.invariant)))
 
 pub returns-clause-ordered : goal.returns-clause-ordered
 returns-clause-ordered g c = invariant_of-self g c
@@ -47,7 +47,7 @@ returns-clause-retained g c =
           let nothing : length now - c.keep-start.result ≡ 0 = omega arith in
           let uncounted = rw nothing at c.mend_with.ensures.counted in
           same_contents _ _ (written_back _ zs _ (all g c) ∙ c.mend_with.ensures.unchanged last ∙ whole) c.keep-start.ensures.capacity (omega (arith, uncounted));
-      counted = rw (written_back _ zs _ (all g c)) (subst (λ m. RisesWithin c.self.inside.judge c.mend_with.new.judge (mend_bound g.row.D m (m - first_no k.0))) long (subst (λ m. RisesWithin c.self.inside.judge c.mend_with.new.judge (mend_bound g.row.D (length now) (length now - m))) k.5 c.mend_with.ensures.counted));
+      counted = rw (written_back _ zs _ (all g c)) (subst (λ m. RisesWithin (g.J.Judge.count c.self.inside.judge) (g.J.Judge.count c.mend_with.new.judge) (mend_bound g.row.D m (m - first_no k.0))) long (subst (λ m. RisesWithin (g.J.Judge.count c.self.inside.judge) (g.J.Judge.count c.mend_with.new.judge) (mend_bound g.row.D (length now) (length now - m))) k.5 c.mend_with.ensures.counted));
     }
 
 pub returns-clause-len : goal.returns-clause-len

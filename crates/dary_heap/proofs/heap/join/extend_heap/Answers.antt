@@ -15,14 +15,14 @@ all g c = c.mend_with.auto.items ∙ c.as_mut_slice.ensures.len
 start : (g : _) (c : After-mend_with g) → c.len-start.result ≡ length c.heap.inside.items.items
 start g c = c.len-start.ensures ∙ c.heap.inside.items.ok.0
 
-ordered : (g : _) (c : After-mend_with g) → IsHeapOrdered g.T.Ord.cmp g.row.D c.mend_with.new.items
+ordered : (g : _) (c : After-mend_with g) → IsHeapOrdered g.J.Judge.order g.row.D c.mend_with.new.items
 ordered g c =
     let xs = c.heap.inside.items.items in
     let front : take c.len-start.result c.as_mut_slice.result.now ≡ xs = ap (take c.len-start.result) (behind g c) ∙ written_back _ xs _ (sym (start g c)) in
-    c.mend_with.ensures.ordered (subst (IsHeapOrdered g.T.Ord.cmp g.row.D) (sym front) c.heap.invariant)
+    c.mend_with.ensures.ordered (subst (IsHeapOrdered g.J.Judge.order g.row.D) (sym front) c.heap.invariant)
 
 -- what came in is taken into the heap
-taken : (g : _) (c : After-mend_with g) → IsExtended g.T.Ord.cmp g.row.D (record { items = c.heap.inside.items.items; capacity = vec_capacity c.heap.inside.items; comparisons = c.heap.inside.judge }) (map g.X.Element.value c.push_all-outcome.ensures.came.0) (record { items = c.mend_with.new.items; capacity = vec_capacity c.push_all-outcome.new.items; comparisons = c.mend_with.new.judge })
+taken : (g : _) (c : After-mend_with g) → IsExtended g.J.Judge.order g.row.D (record { items = c.heap.inside.items.items; capacity = vec_capacity c.heap.inside.items; comparisons = g.J.Judge.count c.heap.inside.judge }) (map g.X.Element.value c.push_all-outcome.ensures.came.0) (record { items = c.mend_with.new.items; capacity = vec_capacity c.push_all-outcome.new.items; comparisons = g.J.Judge.count c.mend_with.new.judge })
 taken g c = mended _ _ _ _ c.len-start.result (behind g c) (start g c) (sym c.mend_with.auto.items) c.mend_with.ensures.bag c.mend_with.ensures.unchanged (ordered g c) c.mend_with.ensures.counted c.push_all-outcome.ensures.capacity
 
 -- the heap is ordered at the end

@@ -17,7 +17,7 @@ returns-clause-ordered g c = λ h.
     let xs = c.args.items.now.items in
     let start = c.len-start.ensures ∙ c.args.items.now.ok.0 in
     let front : take c.len-start.result c.as_mut_slice.result.now ≡ xs = ap (take c.len-start.result) (is g c) ∙ written_back _ xs c.args.others.now.items (sym start) in
-    rw (written_back _ _ _ (all g c)) (c.mend_with.ensures.ordered (subst (IsHeapOrdered g.T.Ord.cmp g.row.D) (sym front) h))
+    rw (written_back _ _ _ (all g c)) (c.mend_with.ensures.ordered (subst (IsHeapOrdered g.J.Judge.order g.row.D) (sym front) h))
 
 pub returns-clause-counted : goal.returns-clause-counted
 returns-clause-counted g c =

@@ -5,7 +5,7 @@ use Rattle.dary_heap.proofs.peek_mut.PeekMut.drop.Goals.{After-swap, then-writte
 use Rattle.dary_heap.proofs.peek_mut.PeekMut.drop.Goals as goal
 
 -- what the heap's vector has then: the same items as a heap, and in the same places if none exceeds the first
-left : (g : _) (c : After-swap g) → IsSameBag c.into_vec-items.result.items c.if-written.items.items × IsHeapOrdered g.T.Ord.cmp g.row.D c.if-written.items.items × ((IsExceeded g.T.Ord.cmp (loaned c.args.self).items → ⊥) → c.if-written.items.items ≡ (loaned c.args.self).items)
+left : (g : _) (c : After-swap g) → IsSameBag c.into_vec-items.result.items c.if-written.items.items × IsHeapOrdered g.J.Judge.order g.row.D c.if-written.items.items × ((IsExceeded g.J.Judge.order (loaned c.args.self).items → ⊥) → c.if-written.items.items ≡ (loaned c.args.self).items)
 left g c =
     let lent = c.args.self.lent in
     elim c.if-written.branch [
@@ -70,7 +70,7 @@ returns-clause-unwritten g c = λ settled. rw c.swap.ensures.x_after (elim c.if-
 
 pub returns-clause-alone : goal.returns-clause-alone
 returns-clause-alone g c = λ one.
-    let still = returns-clause-unmoved g c (lone_unexceeded g.T.Ord.cmp _ one) in
+    let still = returns-clause-unmoved g c (lone_unexceeded g.J.Judge.order _ one) in
     same_contents _ _ still (returns-clause-capacity g c) (lone_uncounted g.row.D _ _ _ one (returns-clause-counted g c))
 
 pub invariant_of-self : goal.invariant_of-self

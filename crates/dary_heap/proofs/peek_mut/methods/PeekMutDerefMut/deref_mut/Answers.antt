@@ -6,11 +6,11 @@ pub returns : goal.returns
 returns g c =
     let loan = c.args.self.now in
     let xs = loan.items.items in (
-      (refl, λ w. with_first-is g.row.D g.T.Ord g.T.PartialEq g.T.PartialOrd loan w _),
+      (refl, λ w. with_first-is g.row.D g.J.Judge loan w _),
       record { writes_back = tt; first = slice_get_read xs (length xs) 0 c.index_mut.result.now refl loan.lent.some c.index_mut.ensures.value },
     )
 
 pub invariant_of-self-lent : goal.invariant_of-self-lent
 invariant_of-self-lent g c =
     let loan = c.args.self.now in
-    λ w. (IsLent-written g.T.Ord.cmp g.row.D loan.written loan.items.items w loan.lent, tt)
+    λ w. (IsLent-written g.J.Judge.order g.row.D loan.written loan.items.items w loan.lent, tt)
