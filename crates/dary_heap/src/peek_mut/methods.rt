@@ -102,7 +102,9 @@ impl<'a, T: Drop, const D: usize, J: Judge<T>> PeekMut<'a, T, D, J> {
         mem::swap(&mut heap.items, &mut items);
         item
     }
+}
 
+impl<T, const D: usize, J: Judge<T>> PeekMut<'_, T, D, J> {
     /// Lets a written item go down to its place, and returns `true` if another item was strictly greater.
     ///
     /// Afterwards the `PeekMut` is of the item that is now the first, which no other exceeds, and

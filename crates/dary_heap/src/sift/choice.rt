@@ -1,9 +1,10 @@
 //! The choice of the greatest child of a place, and of the last if several are equal.
 //!
-//! A whole row has two forms of it, with the same result and comparisons. One chooses without a branch, an
-//! item with its place, so that the next comparison waits for no load; but the load of the next row waits
-//! for the choice. The other, for slices that are longer than the caches, branches: the processor guesses,
-//! and loads the next row early. A wrong guess costs some 20 cycles, and a row from main memory some 300.
+//! A whole row has three forms of it, with the same result and comparisons. Most rows are chosen from without a
+//! branch, an item with its place, so that the next comparison waits for no load; but the load of the next row
+//! waits for the choice. Two items may be chosen from by their places alone. In slices that are longer than the
+//! caches the choice branches: the processor guesses, and loads the next row early. A wrong guess costs some 20
+//! cycles, and a row from main memory some 300.
 ghost use Rattle.std.specs.Prelude.{◌≡◌, ◌+◌, ◌-◌, ◌/◌, ◌≤◌, ℕ, List};
 ghost use Rattle.std.specs.declared.cmp.Ordering.{Ordering};
 ghost use Rattle.dary_heap.specs.HeapOrder.{arity};
