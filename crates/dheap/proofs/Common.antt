@@ -5,9 +5,9 @@ pub use Rattle.std.proofs.Math.Bool.{true≢false}
 pub use Rattle.std.proofs.lemmas.Bool.{eqb-true, ne_eqb}
 pub use Rattle.std.proofs.lemmas.Bool.Decides.{Decides-and, Decides-below_and, Decides-eqb}
 pub use Rattle.std.proofs.lemmas.Int.{to_z-of_z}
-pub use Rattle.std.proofs.lemmas.Iterator.{IsFirst-from_position, YieldsList-from_slice, cases_from_all}
+pub use Rattle.std.proofs.lemmas.Iterator.{IsFirst-from_position, YieldsList-from_slice}
 pub use Rattle.std.proofs.lemmas.List.{flat_map_more, length-append, map-append, take-append-drop, take_all, take_more, take_rest}
-pub use Rattle.std.proofs.lemmas.List.Elements.{All-append, All-cons, All-from_all_within, All-map, All-nil}
+pub use Rattle.std.proofs.lemmas.List.Elements.{All-append, All-cons, All-from_all_within, All-head, All-nil, All-tail}
 pub use Rattle.std.proofs.lemmas.List.Splits.{length-slice_split, slice_split-cons_no, slice_split-cons_yes, slice_split_at, slice_split_none}
 pub use Rattle.std.proofs.lemmas.Str.Parse.{digit_at}
 pub use Rattle.std.specs.Fmt.{decimal, signed_decimal}
@@ -16,7 +16,7 @@ pub use Rattle.std.specs.Io.KnownBytes.{Appends, append_known}
 pub use Rattle.std.specs.List.{AllWithin, HoldsAt, filter, onto_first, slice_split}
 pub use Rattle.std.specs.Str.Parse.{AllDigits, IsNumeral, digits_value, signed_digits_value, starts_with_minus, without_leading_plus, without_leading_sign}
 pub use Rattle.dary_heap.specs.Machine.{Ask, Asked, Command, Done, DrainSorted, MayAnswer, PopIf, Popped, Retain, Step, Steps}
-pub use Rattle.dheap.specs.Answers.{answer, line, listing, text}
+pub use Rattle.dheap.specs.Answers.{answer, answered, line, listing, text}
 pub use Rattle.dheap.specs.Program.{AsksAtLeast, MayPrint}
 pub use Rattle.dheap.specs.Script.{CarryOut, CarryOutLine, IsFirstBad, IsFirstLine, Say, is_blank, lines_left, lines_of, words_of}
 pub use Rattle.dheap.specs.declared.serve.TheConstants.{PAIRS}

@@ -1,11 +1,13 @@
 -- What a loop over replies has written.
-use Rattle.dheap.proofs.Common.{◌≡◌, ℕ, ℤ, suc, ◌<◌, ◌+◌, List, [], ◌∷◌, ◌++◌, Option, None, Some, Result, Ok, Err, OnOk, IfErr, All, is_some, true, take, length, get_or, sym, ap, ◌∙◌, subst, append_assoc, append-nil, arith, AllWithin, map-append, All-append, All-cons, All-from_all_within, All-map, All-nil, Appends, append_known, answer, line, text, Fault}
-use Rattle.std.proofs.Math.Seq.{take-suc}
+use Rattle.dheap.proofs.Common.{◌≡◌, ℕ, ℤ, suc, ◌<◌, ◌≤◌, ◌+◌, List, [], ◌∷◌, ◌++◌, Option, None, Some, All, is_some, cond, true, false, take, drop, length, get_or, refl, sym, ap, ◌∙◌, subst, append_assoc, append-nil, arith, map-append, take-append-drop, take_all, All-append, All-cons, All-head, All-nil, All-tail, Appends, append_known, answer, answered, line, text}
+use Rattle.std.proofs.Math.Bool.{true≢false}
+use Rattle.std.proofs.Math.Seq.{drop-cons, take-suc}
 use Rattle.std.proofs.lemmas.List.Concat.{flat_map-append}
+use Rattle.std.proofs.lemmas.List.Sums.{take_while-cons}
+use Rattle.std.specs.Io.KnownBytes.{Keeps}
 use Rattle.dary_heap.specs.Machine as machine
 use Rattle.dary_heap.specs.Reading as read
 use Rattle.dary_heap.specs.declared.run.Reply.{Reply}
-use Rattle.dheap.specs.Faults.{status_of}
 
 abbrev IsAnswered : machine.Reply ℤ → Type 0
 IsAnswered r = is_some (answer r) ≡ true
@@ -33,17 +35,56 @@ passed-on (Some x) None c held left told p q e = absurd p
 passed-on (Some x) (Some y) None held left told p q e = absurd q
 passed-on (Some x) (Some y) (Some z) held left told p q e = ap (λ l. z ++ l) e ∙ append-nil z ∙ q ∙ p
 
-pub all_answered : {D : ℕ} (replies : List (Reply ℤ D)) → AllWithin (λ r. IsAnswered (read.reply r)) replies 0 (length replies) → All IsAnswered (read.replies replies)
-all_answered replies h = All-map IsAnswered read.reply replies (All-from_all_within (λ r. IsAnswered (read.reply r)) replies h)
+pub line-none : (says : Option (List ℕ)) → is_some says ≡ false → line says ≡ []
+line-none None none = refl
+line-none (Some says) none = absurd (true≢false none)
+
+-- what was held back is passed on, and the output is flushed
+pub flushed : (a b c d : Option (List ℕ)) (held passed : List ℕ) (before all : List (machine.Reply ℤ)) → Appends a (append_known b held) (text before) → passed ≡ held → Appends b c passed → Keeps c d → before ≡ answered all → Appends a d (text (answered all))
+flushed None b c d held passed before all p e q k is = tt
+flushed (Some x) None c d held passed before all p e q k is = absurd p
+flushed (Some x) (Some y) None d held passed before all p e q k is = absurd q
+flushed (Some x) (Some y) (Some z) None held passed before all p e q k is = absurd k
+flushed (Some x) (Some y) (Some z) (Some w) held passed before all p e q k is = k ∙ q ∙ ap (λ l. y ++ l) e ∙ p ∙ ap (λ rs. x ++ text rs) is
+
+All-after : (rs ss : List (machine.Reply ℤ)) → All IsAnswered (rs ++ ss) → All IsAnswered ss
+All-after [] ss h = h
+All-after (r ∷ rs) ss h = All-after rs ss (All-tail IsAnswered r (rs ++ ss) h)
+
+pub answered_all : (rs : List (machine.Reply ℤ)) → All IsAnswered rs → answered rs ≡ rs
+answered_all [] h = refl
+answered_all (r ∷ rs) h =
+    take_while-cons (λ x. is_some (answer x)) r rs ∙ ap (λ b. cond b (r ∷ answered rs) []) (All-head IsAnswered r rs h) ∙ ap (λ l. r ∷ l) (answered_all rs (All-tail IsAnswered r rs h))
+
+pub answered_before : (rs ss : List (machine.Reply ℤ)) (r : machine.Reply ℤ) → All IsAnswered rs → is_some (answer r) ≡ false → answered (rs ++ r ∷ ss) ≡ rs
+answered_before [] ss r h none = take_while-cons (λ x. is_some (answer x)) r ss ∙ ap (λ b. cond b (r ∷ answered ss) []) none
+answered_before (q ∷ rs) ss r h none =
+    take_while-cons (λ x. is_some (answer x)) q (rs ++ r ∷ ss) ∙ ap (λ b. cond b (q ∷ answered (rs ++ r ∷ ss)) []) (All-head IsAnswered q rs h)
+    ∙ ap (λ l. q ∷ l) (answered_before rs ss r (All-tail IsAnswered q rs h) none)
+
+module _ {D : ℕ} (replies : List (Reply ℤ D)) (i : ℕ) where
+  -- each reply has an answer
+  module _ (end : length replies ≤ i) (whole : All IsAnswered (read.replies (take i replies))) where
+    pub whole-end : All IsAnswered (read.replies replies)
+    whole-end = subst (λ rs. All IsAnswered (read.replies rs)) (take_all i replies end) whole
+
+    pub answered-end : read.replies (take i replies) ≡ answered (read.replies replies)
+    answered-end = ap (λ rs. read.replies rs) (take_all i replies end) ∙ sym (answered_all (read.replies replies) whole-end)
+
+  -- the reply at this place has none
+  module _ (reply : Reply ℤ D) (inside : i < length replies) (is : reply ≡ get_or replies i reply) (none : is_some (answer (read.reply reply)) ≡ false) where
+    at-reply : read.replies replies ≡ read.replies (take i replies) ++ read.reply reply ∷ read.replies (drop (suc i) replies)
+    at-reply =
+        ap (λ rs. read.replies rs) (sym (take-append-drop i replies) ∙ ap (λ rs. take i replies ++ rs) (drop-cons replies i reply inside ∙ ap (λ x. x ∷ drop (suc i) replies) (sym is)))
+        ∙ map-append read.reply (take i replies) (reply ∷ drop (suc i) replies)
+
+    pub not-whole : All IsAnswered (read.replies replies) → false ≡ true
+    not-whole whole =
+        sym none ∙ All-head IsAnswered (read.reply reply) _ (All-after (read.replies (take i replies)) _ (subst (All IsAnswered) at-reply whole))
+
+    pub answered-here : All IsAnswered (read.replies (take i replies)) → read.replies (take i replies) ≡ answered (read.replies replies)
+    answered-here whole = sym (ap answered at-reply ∙ answered_before _ _ _ whole none)
 
 -- what is printed if each reply has an answer
-pub printed_by : {E : Type 0} (may : List ℕ → Type 0) (a b : Option (List ℕ)) (says : List ℕ) (answered : Type 0) (result : Result (Unit {0}) E)
-    → OnOk result answered → OnOk result (Appends a b says) → (answered → may says) → OnOk result ((printed : List ℕ) × may printed × Appends a b printed)
-printed_by may a b says answered (Err e) whole written law = tt
-printed_by may a b says answered (Ok u) whole written law = (says, law whole, written)
-
--- what might have been printed if the output failed
-pub printable_by : (may : List ℕ → Type 0) (says : List ℕ) (answered : Type 0) (result : Result (Unit {0}) Fault)
-    → IfErr result (λ fault. status_of fault ≡ 4 → answered) → (answered → may says) → IfErr result (λ fault. status_of fault ≡ 4 → (printed : List ℕ) × may printed)
-printable_by may says answered (Err e) ran law = λ four. (says, law (ran four))
-printable_by may says answered (Ok u) ran law = tt
+pub printed_by : (may : List ℕ → Type 0) (a b : Option (List ℕ)) (replies : List (machine.Reply ℤ)) → All IsAnswered replies → Appends a b (text (answered replies)) → may (text replies) → (printed : List ℕ) × may printed × Appends a b printed
+printed_by may a b replies whole written law = (text replies, law, subst (λ rs. Appends a b (text rs)) (answered_all replies whole) written)

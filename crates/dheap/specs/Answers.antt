@@ -1,5 +1,5 @@
 -- What is printed of replies.
-use Rattle.std.specs.Prelude.{ℕ, ℤ, true, false, List, [], ◌∷◌, ◌++◌, flat_map, Option, Some, None, codes, decimal}
+use Rattle.std.specs.Prelude.{ℕ, ℤ, true, false, List, [], ◌∷◌, ◌++◌, flat_map, take_while, is_some, Option, Some, None, codes, decimal}
 use Rattle.std.specs.Fmt.{signed_decimal}
 use Rattle.dary_heap.specs.Machine.{Reply, Pushed, Popped, Asked, Size, Done, Taken}
 
@@ -29,3 +29,7 @@ line (Some text) = text ++ codes "\n"
 -- the answers to the replies, one per line
 abbrev pub text : List (Reply ℤ) → List ℕ
 text replies = flat_map (λ reply. line (answer reply)) replies
+
+-- the replies before the first that says that memory allocation failed
+abbrev pub answered : List (Reply ℤ) → List (Reply ℤ)
+answered replies = take_while (λ reply. is_some (answer reply)) replies

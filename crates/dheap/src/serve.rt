@@ -1,11 +1,11 @@
 //! One run of the program, over any streams.
-ghost use Rattle.std.specs.Prelude.{◌≡◌, ◌⊎◌, ◌+◌, ◌-◌, ◌/◌, ◌%◌, ◌<◌, ◌≤◌, ◌↔◌, ◌++◌, ◌∷◌, ℕ, List, [], All, map, codes, is_some, option_to_list, string_bytes, true, drop, IfOk, IfSome, IfNone, IfErr, OnOk, MatchOption};
+ghost use Rattle.std.specs.Prelude.{◌≡◌, ◌⊎◌, ◌+◌, ◌-◌, ◌/◌, ◌%◌, ◌<◌, ◌≤◌, ◌↔◌, ◌++◌, ◌∷◌, ℕ, List, [], All, map, codes, is_some, option_to_list, string_bytes, true, drop, IfOk, IfSome, IfNone, IfErr, OnOk, MatchOption, IsTrue};
 ghost use Rattle.std.specs.Fmt.{decimal, sign_text, signed_decimal};
 ghost use Rattle.std.specs.Io.KnownBytes.{Appends, Keeps, IsAtEnd};
 ghost use Rattle.dary_heap.specs.Reading as read;
-ghost use Rattle.dheap.specs.Answers.{answer, line, listing, text};
+ghost use Rattle.dheap.specs.Answers.{answer, answered, line, listing, text};
 ghost use Rattle.dheap.specs.Faults.{TellsFirstBad, status_of};
-ghost use Rattle.dheap.specs.Program.{Fails, MayPrint, Prints};
+ghost use Rattle.dheap.specs.Program.{Fails, Prints};
 ghost use Rattle.dheap.specs.Script.{CarryOut, CarryOutLine, IsFirstBad, Say, Says, lines_left, lines_of, words_of};
 ghost use Rattle.dheap.specs.Words.{IsArity};
 ghost use Rattle.dheap.specs.declared.serve.line.Line.{Line};
@@ -143,9 +143,9 @@ fn answer<W: Write, const D: usize>(
     ensures printed { OnOk result
         (Prints script.items (W.contents output.old) (W.contents output.new)) }
 
-    // If the output failed, the whole run went well before.
-    ensures ran { IfErr result
-        (λ fault. status_of fault ≡ 4 → (printed : List ℕ) × MayPrint script.items printed) }
+    // If the output failed, all lines were good.
+    ensures good { IfErr result (λ fault. status_of fault ≡ 4
+        → (lines : List Line) × Say (lines_of script.items) lines) }
 {
     let commands = commands(
         alloc,
@@ -155,10 +155,13 @@ fn answer<W: Write, const D: usize>(
     // Its room is given back before the replies and the heap take some.
     drop(script);
     let mut heap = DaryHeap::<i64, D>::new(alloc);
-    match run(alloc, &mut heap, commands) {
-        Ok(replies) => write_replies(alloc, replies.as_slice(), output),
-        Err(_) => Err(Fault::NoMemory),
+    let Ok(replies) = run(alloc, &mut heap, commands) else {
+        return Err(Fault::NoMemory);
+    };
+    if !write_answers(alloc, replies.as_slice(), output)? {
+        return Err(Fault::NoMemory);
     }
+    Ok(())
 }
 
 /// The commands of a script, with the predicates that `at_least` makes of bounds. Each line becomes its
@@ -236,46 +239,25 @@ fn command<const D: usize, P: FnMut(&i64) -> bool, F: Fn(i64) -> P>(
     }
 }
 
-/// Writes a line for each reply, up to the first that says that there was no memory. If there is such a
-/// reply, it fails with `NoMemory` even if the output failed too, for the memory was missing before.
-fn write_replies<W: Write, const D: usize>(
-    alloc: Global,
-    replies: &[Reply<i64, D>],
-    output: &mut W,
-) -> Result<(), Fault>
-    ensures fault { IfErr result (λ fault. 3 ≤ status_of fault) }
-    ensures whole { OnOk result
-        (All (λ reply. is_some (answer reply) ≡ true) (read.replies replies.now)) }
-    ensures written { OnOk result (Appends (W.contents output.old) (W.contents output.new)
-        (text (read.replies replies.now))) }
-    ensures ran { IfErr result (λ fault. status_of fault ≡ 4
-        → All (λ reply. is_some (answer reply) ≡ true) (read.replies replies.now)) }
-{
-    match write_answers(alloc, replies, output) {
-        Ok(()) => Ok(()),
-        Err(fault) if replies.iter().all(has_answer) => Err(fault),
-        Err(_) => Err(Fault::NoMemory),
-    }
-}
-
-/// Writes a line for each reply, up to the first that says that there was no memory.
+/// Writes a line for each reply before the first that says that memory allocation failed. Returns whether
+/// there is no such reply.
 fn write_answers<W: Write, const D: usize>(
     alloc: Global,
     replies: &[Reply<i64, D>],
     output: &mut W,
-) -> Result<(), Fault>
+) -> Result<bool, Fault>
     ensures fault { IfErr result (λ fault. 3 ≤ status_of fault) }
-    ensures whole { OnOk result
-        (All (λ reply. is_some (answer reply) ≡ true) (read.replies replies.now)) }
+    ensures whole { IfOk result (λ whole. IsTrue whole
+        ↔ All (λ reply. is_some (answer reply) ≡ true) (read.replies replies.now)) }
     ensures written { OnOk result (Appends (W.contents output.old) (W.contents output.new)
-        (text (read.replies replies.now))) }
+        (text (answered (read.replies replies.now)))) }
 {
     let mut held = Vec::new(alloc);
     for reply in replies {
         if !write_reply(reply, &mut held)? {
             pass_on(&mut held, output)?;
             output.flush()?;
-            return Err(Fault::NoMemory);
+            return Ok(false);
         }
         if held.len() >= HELD {
             pass_on(&mut held, output)?;
@@ -283,18 +265,7 @@ fn write_answers<W: Write, const D: usize>(
     }
     pass_on(&mut held, output)?;
     output.flush()?;
-    Ok(())
-}
-
-/// Whether a reply has an answer. Without one it says that there was no memory.
-fn has_answer<const D: usize>(reply: &Reply<i64, D>) -> bool
-    ensures { result ≡ is_some (answer (read.reply reply.now)) }
-{
-    match reply {
-        Reply::Pushed | Reply::Popped(_) | Reply::Asked(_) => true,
-        Reply::Len(_) | Reply::Done | Reply::Taken(_) => true,
-        _ => false,
-    }
+    Ok(true)
 }
 
 /// Writes what is held back.

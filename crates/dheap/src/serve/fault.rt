@@ -1,6 +1,7 @@
 //! What ends a run early.
-ghost use Rattle.std.specs.Prelude.{◌≡◌, ◌≤◌};
-ghost use Rattle.dheap.specs.Faults.{status_of};
+ghost use Rattle.std.specs.Prelude.{◌≡◌, ◌≤◌, ◌↔◌, ◌++◌, Some, OnOk, codes};
+ghost use Rattle.std.specs.Io.KnownBytes.{Appends};
+ghost use Rattle.dheap.specs.Faults.{IsOfMemory, message, status_of};
 
 use std::alloc::{AllocError, AllocFailed};
 use std::io::{ErrorKind, Write};
@@ -36,12 +37,22 @@ impl Fault {
     pub fn report<E: Write>(self, errors: &mut E) -> u8
         ensures { result ≡ status_of self }
     {
-        let _ = writeln!(errors, "{self}");
+        let _ = self.tell(errors);
         self.status()
+    }
+
+    /// Writes to `errors` a line that says what it was.
+    fn tell<E: Write>(self, errors: &mut E) -> io::Result<()>
+        ensures { OnOk result (Appends (E.contents errors.old) (E.contents errors.new)
+            (message self ++ codes "\n")) }
+    {
+        writeln!(errors, "{self}")
     }
 }
 
 impl fmt::Display for Fault {
+    ghost output = { λ fault. Some (message fault) };
+
     fn fmt<W: fmt::Write>(&self, f: &mut fmt::Formatter<W>) -> fmt::Result {
         match self {
             Fault::Usage => write!(f, "usage: dheap ARITY (1 to 8)"),
@@ -69,9 +80,9 @@ impl<T: Drop> From<AllocFailed<T>> for Fault {
 }
 
 impl From<io::Error> for Fault {
-    ghost from_gives = { λ _ fault. 3 ≤ status_of fault };
+    ghost from_gives = { λ error fault. (3 ≤ status_of fault)
+        × ((status_of fault ≡ 3) ↔ IsOfMemory error) };
 
-    // Memory allocation that fails in the program has no error number of the system.
     fn from(error: io::Error) -> Fault {
         if error.kind() == ErrorKind::OutOfMemory && error.raw_os_error().is_none() {
             Fault::NoMemory
