@@ -1,5 +1,6 @@
 //! One run of the program, over any streams.
-ghost use Rattle.std.specs.Prelude.{◌≤◌};
+ghost use Rattle.std.specs.Prelude.{◌≡◌, ◌≤◌, [], OnOk};
+ghost use Rattle.std.specs.Io.KnownBytes.{Appends};
 
 use crate::fault::Fault;
 use crate::vocabulary::{Vocabulary, first_word};
@@ -72,7 +73,11 @@ fn put_word(
 }
 
 /// Writes what is held back.
-fn pass_on<W: Write>(held: &mut Vec<u8>, output: &mut W) -> io::Result<()> {
+fn pass_on<W: Write>(held: &mut Vec<u8>, output: &mut W) -> io::Result<()>
+    ensures passed { OnOk result
+        (Appends (W.contents output.old) (W.contents output.new) held.old.items) }
+    ensures none { OnOk result (held.new.items ≡ []) }
+{
     output.write_all(held.as_slice())?;
     held.clear();
     Ok(())
