@@ -1,5 +1,5 @@
 -- The laws that proofs of callers need, found by `rt lemma`: what a list holds, bags, greatest items, pops in a row, heaps of `Reverse`, and comparisons.
-use Rattle.dary_heap.proofs.{◌≡◌, ◌≢◌, ℕ, ◌+◌, ◌<◌, ◌≤◌, min, Bool, true, false, if◌then◌else◌, IfSome, List, [], ◌∷◌, ◌++◌, length, map, slice_set, All, Contains, Option, Some, None, Result, Ok, Err, Vec, arith, refl, sym, ap, ◌∙◌, subst, inl, inr, length-append, IsTotalOrder, Yields, nat_cmp, is_lt, ordering_reverse, ordering_then, Global, Ordering, Less, Greater, cases_lt, All-contains, All-contains_itself, All-weaker, Contains-append_cases, length_permutation, IsPermutation-refl, IsPermutation-sym, IsPermutation-trans, IsPermutation-cons, IsPermutation-middle, IsPermutation-append_left, IsSameBag, IsGreatest, Contents, IsPop, IsDescending, IsGivenDescending, front, zero, suc, get_or, slice_get, get_or_from_slice_get, slice_get_within, parent, IsHeapOrdered, alone, not_less, read}
+use Rattle.dary_heap.proofs.{set, slice_get-set_other, IsHeapOrderedButAt, IsAtMost-by, IsAtMost-over, sum_by, sum_by-set, sum_by-IsPermutation, AllByRecursion, Command, Reply, Runs, ◌≡◌, ◌≢◌, ℕ, ◌+◌, ◌<◌, ◌≤◌, min, Bool, true, false, if◌then◌else◌, IfSome, List, [], ◌∷◌, ◌++◌, length, map, slice_set, All, Contains, Option, Some, None, Result, Ok, Err, Vec, arith, refl, sym, ap, ◌∙◌, subst, inl, inr, length-append, IsTotalOrder, Yields, nat_cmp, is_lt, ordering_reverse, ordering_then, Global, Ordering, Less, Greater, cases_lt, All-contains, All-contains_itself, All-weaker, Contains-append_cases, length_permutation, IsPermutation-refl, IsPermutation-sym, IsPermutation-trans, IsPermutation-cons, IsPermutation-middle, IsPermutation-append_left, IsSameBag, IsGreatest, Contents, IsPop, IsDescending, IsGivenDescending, front, zero, suc, get_or, slice_get, get_or_from_slice_get, slice_get_within, parent, IsHeapOrdered, alone, not_less, read}
 use Rattle.std.proofs.Common.{IfOk, OnOk, is_ok}
 use Rattle.std.specs.Iterator.Adapters.{take_count, take_source, take_steps}
 use Rattle.std.specs.Ordering.{is_some_and}
@@ -12,14 +12,15 @@ use Rattle.std.proofs.lemmas.List.Elements.{All-cons, All-map, All-tail}
 use Rattle.std.proofs.lemmas.List.Sorted.{All-permutation, IsPermutation-map, IsPermutation-append_right, IsPermutation-pop_more}
 use Rattle.std.proofs.lemmas.Iterator.Adapters.{YieldsAtMost}
 use Rattle.std.specs.BinaryHeap.{IsHeap}
+use Rattle.dary_heap.specs.TwoArities.{IsUnrefused, RunsUnrefused}
 use Rattle.dary_heap.specs.Extending.{IsRefusedAfter}
 pub use Rattle.dary_heap.proofs.Bags.{IsGreatest-stays, IsGreatest-overtaken, front_cases, Contains-cases, Contains-first, Contains-later, holds_none, has_none, came_first, came_later, came_cases, upper_bound, upper_bound_left}
 pub use Rattle.dary_heap.proofs.Order.{not_greater-self, not_greater-trans}
 pub use Rattle.dary_heap.proofs.Callable.{takes_in_turn, all_callable}
 pub use Rattle.dary_heap.proofs.Cancelling.{IsPermutation-uncons}
-pub use Rattle.dary_heap.proofs.sift.Parts.{ordered_but_at, overwritten}
-pub use Rattle.dary_heap.proofs.peek_mut.Lowering.{sum_falls}
-pub use Rattle.dary_heap.proofs.iter.Popping.{none_first, pops_list, pops_descend, pops_given}
+use Rattle.dary_heap.proofs.Depth.{parent-below}
+use Rattle.dary_heap.proofs.sift.Parts.{still_but_at}
+pub use Rattle.dary_heap.proofs.Popping.{none_first, pops_list, pops_descend, pops_given}
 
 lt_no : (r : Ordering) → is_lt r ≡ false → ordering_reverse r ≢ Greater
 lt_no r h e = grind arith
@@ -46,6 +47,14 @@ IsSameBag-written {X} (top ∷ rest) new m x first same =
     let is : top ≡ m = cc in
     subst (λ (v : X). IsSameBag (x ∷ top ∷ rest) (v ∷ new)) is (IsPermutation-trans _ _ _ (IsPermutation-middle (x ∷ []) top rest) (IsPermutation-cons top (x ∷ rest) new same))
 
+-- the measure of a loop that writes less to the item on loan and refreshes the loan: the sum of the numbers falls
+pub sum_falls : (items after : List ℕ) (held less : ℕ) → front items ≡ Some held → less < held → IsSameBag (slice_set items 0 less) after → sum_by (λ x. x) after < sum_by (λ x. x) items
+sum_falls [] after held less first below same = cc
+sum_falls (top ∷ rest) after held less first below same =
+    let is : top ≡ held = cc in
+    let total = sum_by-IsPermutation (λ x. x) (less ∷ rest) after same in
+    omega (arith, total, sum_by-set (λ x. x) (top ∷ rest) 0 less top (omega arith), below, is)
+
 -- an item that was popped from one heap and pushed onto another
 pub IsSameBag-moved : {X : Type 0} (x : X) (from to left new : List X) → IsSameBag from (x ∷ left) → IsSameBag (x ∷ to) new → IsSameBag (from ++ to) (left ++ new)
 IsSameBag-moved x from to left new went came =
@@ -54,6 +63,22 @@ IsSameBag-moved x from to left new went came =
     (IsPermutation-trans _ _ _
     (IsPermutation-sym (left ++ x ∷ to) (x ∷ (left ++ to)) (IsPermutation-middle left x to))
     (IsPermutation-append_right left (x ∷ to) new came))
+
+-- ---- a change at a place
+
+module _ {X : Type 0} {cmp : X → X → Ordering} (total : IsTotalOrder cmp) (D place : ℕ) where
+  -- a heap is one but at any place
+  pub ordered_but_at : (xs : List X) → IsHeapOrdered cmp D xs → IsHeapOrderedButAt cmp D place xs
+  ordered_but_at xs h = record {
+    elsewhere = λ i pos other apart. h.below_parent i pos;
+    across = λ i high pos c.
+        let over : parent D i < i = parent-below D i pos in
+        IsAtMost-over total xs i place (parent D place) (omega arith) (IsAtMost-by _ _ _ _ refl (ap (slice_get xs) (sym c)) (h.below_parent i pos)) (h.below_parent place high);
+  }
+
+  -- and stays so if the item there is overwritten
+  pub overwritten : (xs : List X) (x : X) → IsHeapOrdered cmp D xs → IsHeapOrderedButAt cmp D place (set xs place x)
+  overwritten xs x h = still_but_at D place xs (set xs place x) (λ k other inside. slice_get-set_other xs place k x other) (ordered_but_at xs h)
 
 -- ---- pops in a row
 
@@ -108,6 +133,12 @@ module _ {X : Type 0} (cmp : X → X → Ordering) (D : ℕ) where
       let ended = run.2 tt in
       rw ran.2.0 (first_pops heap k s run.0 ended.0 ran.0 source count run.1 ended.1)
   take_pops heap k s (Err e) source count ran = tt
+
+-- ---- two arities
+
+-- a run of the code in which nothing is refused is one of the machine
+pub RunsUnrefused-from : {X P : Type 0} {cmp : X → X → Ordering} {calls : P → X → Bool → P → Type 0} {D : ℕ} (old new : Contents X) (commands : List (Command X P)) (replies : List (Reply X)) → Runs cmp calls D old commands replies new → AllByRecursion IsUnrefused replies → RunsUnrefused cmp calls old.items commands replies new.items
+RunsUnrefused-from old new commands replies runs unrefused = record { states = runs.states; begins = runs.begins; run = runs.run; ends = runs.ends; unrefused = unrefused }
 
 -- ---- a heap of `Reverse`, which gives the least first
 

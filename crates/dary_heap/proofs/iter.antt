@@ -1,3 +1,2 @@
 -- The lemmas of the module `iter`.
 pub mod Iterating
-pub mod Popping

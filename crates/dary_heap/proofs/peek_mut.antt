@@ -1,3 +1,2 @@
 -- The lemmas of the module `peek_mut`.
 pub mod Loans
-pub mod Lowering

@@ -188,7 +188,7 @@ pub fn run<T: Ord + Drop, const D: usize, P: FnMut(&T) -> bool>(
 /// replies and leave the same bag, if no command holds a predicate or a heap, or drains in slice
 /// order, no two different values of the bag and the commands compare equal, and no memory
 /// allocation fails. The machine knows no arity, so this holds of what [`run`] returns at any two:
-/// the lemma `RunsUnrefused-from` of `proofs/run/SameReplies.antt` leads there from its clause `runs`.
+/// the lemma `RunsUnrefused-from` of `proofs/Callers.antt` leads there from its clause `runs`.
 ///
 /// # Examples
 ///

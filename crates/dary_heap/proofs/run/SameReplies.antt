@@ -1,6 +1,6 @@
 -- Without ties, questions and refusals, two runs from the same bag give the same replies and leave the same bag: their states are the same ones, and so both may be read from the first.
-use Rattle.dary_heap.proofs.Common.{◌≡◌, ◌≢◌, ℕ, zero, suc, Bool, true, false, List, [], ◌∷◌, ◌++◌, refl, sym, ap, ◌∙◌, subst, arith, Option, Some, None, AllByRecursion, IsTotalOrder, Ordering, Equal, Greater, Contains-append_left, Contains-append_right, IsPermutation-refl, IsPermutation-sym, IsPermutation-trans, IsPermutation-cons, length_permutation, items_in, written, IsSameBag, IsGreatest, IsGreatest-same_bag, Act, Write, Refresh, End, PutBack, TakeOut, Seen, Old, Changed, Command, Reply, Push, Pop, Len, Extend, Append, Reserve, Shrink, Clear, DrainSorted, Loan, Pushed, Popped, Size, Done, Taken, Loaned, Acts, Ends, Pops, PopsInTurn, Step, Steps, last_state, Contents, Runs, IsState, IsSameState, front}
-use Rattle.dary_heap.specs.TwoArities.{HasNoTies, IsSettled, IsUnrefused, RunsUnrefused, SameRepliesAtTwoArities}
+use Rattle.dary_heap.proofs.Common.{◌≡◌, ◌≢◌, ℕ, zero, suc, Bool, true, false, List, [], ◌∷◌, ◌++◌, refl, sym, ap, ◌∙◌, subst, arith, Option, Some, None, AllByRecursion, IsTotalOrder, Ordering, Equal, Greater, Contains-append_left, Contains-append_right, IsPermutation-refl, IsPermutation-sym, IsPermutation-trans, IsPermutation-cons, length_permutation, items_in, written, IsSameBag, IsGreatest, IsGreatest-same_bag, Act, Write, Refresh, End, PutBack, TakeOut, Seen, Old, Changed, Command, Reply, Push, Pop, Len, Extend, Append, Reserve, Shrink, Clear, DrainSorted, Loan, Pushed, Popped, Size, Done, Taken, Loaned, Acts, Ends, Pops, PopsInTurn, Step, Steps, last_state, IsState, IsSameState, front}
+use Rattle.dary_heap.specs.TwoArities.{HasNoTies, IsSettled, IsUnrefused, SameRepliesAtTwoArities}
 use Rattle.dary_heap.proofs.Bags.{holds_none, Contains-first, IsAmong, IsAmong-cons, IsAmong-tail, IsAmong-append, IsAmong-same}
 use Rattle.dary_heap.proofs.Cancelling.{IsPermutation-uncons}
 use Rattle.dary_heap.proofs.Fronts.{same_state}
@@ -156,7 +156,3 @@ module _ {X P : Type 0} {cmp : X → X → Ordering} (calls : P → X → Bool �
       let from = one_state calls total values untied start start' same among run.begins run'.begins in
       let both = runs_alike calls total values untied commands start start' replies replies' run.states run'.states settled brought among run.begins from run.unrefused run'.unrefused run.run run'.run in
       (both.0, subst (λ l. IsSameBag l end') run.ends (subst (IsSameBag (last_state start run.states)) run'.ends both.1))
-
--- a run of the code in which nothing is refused is one of the machine
-pub RunsUnrefused-from : {X P : Type 0} {cmp : X → X → Ordering} {calls : P → X → Bool → P → Type 0} {D : ℕ} (old new : Contents X) (commands : List (Command X P)) (replies : List (Reply X)) → Runs cmp calls D old commands replies new → AllByRecursion IsUnrefused replies → RunsUnrefused cmp calls old.items commands replies new.items
-RunsUnrefused-from old new commands replies runs unrefused = record { states = runs.states; begins = runs.begins; run = runs.run; ends = runs.ends; unrefused = unrefused }

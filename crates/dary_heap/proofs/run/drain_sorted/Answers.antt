@@ -1,7 +1,7 @@
 use Rattle.dary_heap.proofs.Common.{◌≡◌, length, min, refl, sym, ap, arith, is_some, nil_from_length, zero-le, Contents, drained_heap, ℕ, zero, suc, ◌+◌, ◌<◌, ◌≤◌, Bool, List, [], ◌∷◌, ◌∙◌, IsTotalOrder, Ordering, Yields, RisesWithin, pops_bound, Command, Reply, PopsInTurn, Serves, Yields-more, DrainsSorted}
 use Rattle.dary_heap.proofs.Fronts.{ordered_state}
 use Rattle.dary_heap.proofs.run.Serving.{refused, serves_emptied, serves_same}
-use Rattle.dary_heap.proofs.iter.Popping.{keeps_heap_along, pops_bound_step}
+use Rattle.dary_heap.proofs.Popping.{keeps_heap_along, pops_bound_step}
 use Rattle.dary_heap.specs.declared.iter.drain_sorted.DrainSorted.{DrainSorted}
 use Rattle.dary_heap.proofs.Order.{read}
 use Rattle.dary_heap.proofs.run.drain_sorted.Goals as goal

@@ -1,4 +1,4 @@
-use Rattle.dary_heap.proofs.iter.Popping.{drains_give, keeps_heap_along}
+use Rattle.dary_heap.proofs.Popping.{drains_give, keeps_heap_along}
 use Rattle.dary_heap.proofs.heap.DaryHeap.drain_sorted.Goals as goal
 
 pub returns-clause-stays : goal.returns-clause-stays

@@ -1,4 +1,4 @@
-use Rattle.dary_heap.proofs.iter.Popping.{pops_give}
+use Rattle.dary_heap.proofs.Popping.{pops_give}
 use Rattle.dary_heap.proofs.heap.DaryHeap.into_iter_sorted.Goals as goal
 
 pub returns-clause-descending : goal.returns-clause-descending

@@ -1,4 +1,4 @@
-use Rattle.dary_heap.proofs.iter.Popping.{one_popped}
+use Rattle.dary_heap.proofs.Popping.{one_popped}
 use Rattle.dary_heap.proofs.iter.drain_sorted.pop_all.Goals as goal
 
 pub loop-preserved-in-Some : goal.loop-preserved-in-Some
