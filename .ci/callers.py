@@ -1,0 +1,26 @@
+"""A repository of the library alone and a crate over it."""
+import pathlib
+import re
+import shutil
+import subprocess
+
+CRATE = pathlib.Path(__file__).resolve().parent.parent / "crates/dary_heap"
+# The first line of a block of code that begins a file of a caller.
+HEAD = re.compile(r"^(?://|--) ((?:src|specs|proofs)/\S+)\n", re.M)
+
+
+def lay_out(top, files):
+    """Copies the library's folder into an empty one, beside a crate `my_crate` of these files, a dict from path to text. Returns
+    the folder of that crate."""
+    shutil.copytree(CRATE, top / "crates/dary_heap", ignore=shutil.ignore_patterns("out"))
+    (top / "crates.txt").write_text("dary_heap: core\nmy_crate: dary_heap\n")
+    folder = top / "crates/my_crate"
+    for path, text in files.items():
+        (folder / path).parent.mkdir(parents=True, exist_ok=True)
+        (folder / path).write_text(text, encoding="utf-8")
+    return folder
+
+
+def rt(folder, *words):
+    """Runs a command of `rt` in a folder."""
+    return subprocess.run(["rt", *words], cwd=folder, capture_output=True, encoding="utf-8")
