@@ -1,9 +1,8 @@
 //! Tasks by deadline, as `CALLING.md` of `dary_heap` shows them: a heap by a judge of one's own, since a task has no order.
 ghost use Rattle.std.specs.Cmp.{back_total, nat_cmp_total, on_total};
 ghost use Rattle.std.specs.Ordering.{nat_cmp};
-ghost use Rattle.std.specs.Prelude.{◌<◌, ◌≤◌, ◌↔◌, ◌∷◌, length, Contains, IsSome, IfSome};
+ghost use Rattle.std.specs.Prelude.{◌≡◌, ◌≤◌, [], ◌∷◌, All, IfSome, IfNone};
 ghost use Rattle.dary_heap.specs.Bag.{IsSameBag};
-ghost use Rattle.dary_heap_uses.specs.declared.deadlines.Task.{Task};
 
 use dary_heap::DaryHeap;
 use dary_heap::sift::{ByOrd, Judge};
@@ -33,10 +32,9 @@ impl Judge<Task> for ByDue {
 
 /// Takes a task out that is due first, or returns `None` if there is none.
 pub fn next_task(tasks: &mut DaryHeap<Task, 4, ByDue>) -> Option<Task>
-    ensures variant { IsSome result ↔ (0 < length tasks.old.items) }
-    ensures first { IfSome result (λ task. (other : Task) → Contains tasks.old.items other
-        → task.due ≤ other.due) }
+    ensures first { IfSome result (λ task. All (λ other. task.due ≤ other.due) tasks.new.items) }
     ensures bag { IfSome result (λ task. IsSameBag tasks.old.items (task ∷ tasks.new.items)) }
+    ensures none { IfNone result (tasks.old.items ≡ []) }
 {
     tasks.pop()
 }

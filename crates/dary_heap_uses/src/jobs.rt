@@ -32,9 +32,8 @@ impl Jobs {
     pub fn new(alloc: Global) -> Jobs
         ensures { result ≡ [] }
     {
-        Jobs {
-            heap: TernaryHeap::new(alloc),
-        }
+        let heap = TernaryHeap::new(alloc);
+        Jobs { heap }
     }
 
     /// Adds a job. If memory allocation fails, returns the job, and nothing has changed.
