@@ -1,17 +1,19 @@
 #!/usr/bin/env python3
-"""Makes the tables and the pictures of the program's lines. It needs matplotlib.
+"""Makes the tables, the pictures and speed.csv of the program's lines. It needs matplotlib.
 
 usage: report.py LINES.. SPEED.md FOLDER
 
-Of several runs, as of builds whose code lies elsewhere, it takes the least time of each heap.
+Of several runs, as of builds whose code lies elsewhere, it takes the least time of each heap. If a line is
+missing, it names that and writes nothing. It says which are of one run alone.
 Fills what stands between the marks '<!-- NAME -->' and '<!-- end of NAME -->' of SPEED.md, for the
-names in BLOCKS, writes pop.svg and speed.svg into the folder, and prints the table of README.
+names in BLOCKS, writes pop.svg, speed.svg and speed.csv into the folder, and prints the table of README.
 """
 
+import csv
 import io
 import math
 import sys
-from collections import defaultdict
+from collections import Counter, defaultdict
 from pathlib import Path
 from statistics import geometric_mean
 
@@ -20,7 +22,6 @@ import matplotlib
 matplotlib.use("svg")
 import matplotlib.pyplot as plt
 from matplotlib.ticker import LogLocator, NullFormatter
-from numpy import fmin
 
 # The workloads on numbers, with their names in the tables.
 NUMBERS = {
@@ -30,8 +31,8 @@ NUMBERS = {
     "push_ascending": "push, ascending",
     "push_descending": "push, descending",
     "pop": "pop",
-    "churn": "push and pop by turns",
-    "turns": "pop, and push a little less",
+    "churn": "push, then pop",
+    "turns": "pop, then push",
     "extend_64": "extend by 64",
     "extend_eighth": "extend by eighths",
     "append_64": "append of 64",
@@ -41,73 +42,116 @@ NUMBERS = {
 }
 # Those on wider items.
 KINDS = {"entries": "16 bytes", "records": "64 bytes", "strings": "strings"}
-CALLS = {"build": "build", "push": "push", "pop": "pop", "churn": "push and pop by turns"}
+CALLS = {"build": "build", "push": "push", "pop": "pop", "churn": "push, then pop"}
 WIDE = {f"{call}_{kind}": f"{name}, {of}" for kind, of in KINDS.items() for call, name in CALLS.items()}
-# Those of the picture by arity, and those of README with their sizes.
-DRAWN = ["push_random", "pop", "churn", "build"]
+# The rows of the first table, with the workloads that a mean is of.
+MEANS = {
+    "numbers, without `retain`": [workload for workload in NUMBERS if workload != "retain"],
+    "`retain`": ["retain"],
+    **{of: [f"{call}_{kind}" for call in CALLS] for kind, of in KINDS.items()},
+}
+# The search and its arity.
+SEARCH, SEARCH_ARITY = "shortest_path", 3
+# The arities of the tables, and the sizes that each workload has at least.
+ARITIES = [2, 3, 4, 8]
+SIZES = [10**3, 10**5, 10**6]
+# The workloads of README, with the sizes there, and those of the picture by arity.
 SHOWN = ["pop", "push_random", "build"]
 SHOWN_SIZES = [10**3, 10**5, 10**7]
-# The size of which the comparisons are shown.
+DRAWN = ["push_random", "pop", "churn", "build"]
+# The size of which comparisons are shown.
 COMPARED = 10**6
-# Whose time this heap's is divided by, in the order of the tables.
-OTHERS = {
-    "crate": "the crate",
-    "rattle_std": "Rattle's std",
-    "std": "Rust's std",
-    "cpp": "std::priority_queue",
-    "boost": "boost",
-}
-# Those that have an arity; the others have arity 2.
-AT_ARITIES = ("here", "crate")
+# Whose time this heap's is divided by in the tables, with the heads of the columns.
+BESIDE = {"crate": "crate", "rattle_std": "Rattle", "cpp": "C++"}
+# The heaps that have an arity, and those of arity 2 alone.
+AT_ARITIES = {"here": "this heap", "crate": "the Rust crate"}
+AT_TWO = {"rattle_std": "Rattle's std", "std": "Rust's std", "cpp": "std::priority_queue"}
 # A time within this factor of the quickest is as good.
 ABOUT = 1.03
 
 
-def lines_of(path):
-    """The cells of each line by workload, items and arity, and what was left out. A dash becomes a NaN."""
+# The lines.
+
+
+def read(path):
+    """The key of each line of a run with its numbers, and what was left out. A dash becomes a NaN."""
     texts = Path(path).read_text(encoding="utf-8").splitlines()
     faults = [text for text in texts if text.startswith("FAULT")]
     if faults:
         sys.exit("\n".join(faults))
     left_out = [text.removeprefix("# left out: ") for text in texts if text.startswith("# left out: ")]
-    heads, *rows = [text.split() for text in texts if text.strip() and not text.startswith("#")]
-    lines = {}
+    rows = [text.split() for text in texts if text.strip() and not text.startswith("#")]
+    heads = rows[0] if rows else sys.exit(f"{path} has no lines")
+    lines = []
     for row in rows:
+        if len(row) != len(heads):
+            sys.exit(f"{path} has a line that isn't whole: {' '.join(row)}")
         if row != heads:
             workload, arity, items, *cells = (math.nan if word == "-" else word for word in row)
-            lines[workload, int(items), int(arity)] = dict(zip(heads[3:], map(float, cells)))
+            lines.append(((workload, int(items), int(arity)), dict(zip(heads[3:], map(float, cells)))))
     return lines, left_out
+
+
+def least(line, other):
+    """The least of each number of two lines of the same, and this heap's times over those of the others."""
+    cells = {head: min(there([number, other[head]]), default=math.nan) for head, number in line.items()}
+    return {head: over(cells, head[5:]) if head.startswith("over_") else cells[head] for head in cells}
 
 
 class Report:
     """The lines of runs with the least times, and what one of them left out."""
 
     def __init__(self, paths):
-        (lines, self.left_out), *others = map(lines_of, paths)
-        for more, also in others:
-            self.left_out += [it for it in also if it not in self.left_out]
-            for key in lines.keys() & more.keys():
-                times = {head: time for head, time in more[key].items() if head.endswith("_ns")}
-                lines[key].update({head: fmin(time, lines[key][head]) for head, time in times.items()})
+        lines, self.left_out, self.runs = {}, [], Counter()
+        for path in paths:
+            found, left_out = read(path)
+            self.left_out += [it for it in left_out if it not in self.left_out]
+            for key, line in found:
+                lines[key] = least(line, lines.get(key, line))
+                self.runs[key] += 1
+        # By workload in the order of the program, then by size, then by arity.
+        order = list(dict.fromkeys(workload for workload, *_ in lines))
+        self.lines = dict(sorted(lines.items(), key=lambda it: (order.index(it[0][0]), it[0])))
+        missing = list(self.missing())
+        if missing:
+            sys.exit("\n".join(["These lines are missing:", *missing]))
         # The lines of each workload and size, by rising arity.
         self.groups = defaultdict(lambda: defaultdict(list))
-        for workload, items, arity in sorted(lines):
-            self.groups[workload][items].append(lines[workload, items, arity])
-        self.arities = sorted({arity for workload, _, arity in lines if workload == "pop"})
+        for (workload, items, arity), line in self.lines.items():
+            if arity in arities_of(workload):
+                self.groups[workload][items].append(line)
+        self.beside = [who for who in BESIDE if self.ratios(NUMBERS, who)]
 
-    def ratios(self, workloads, who):
+    def missing(self):
+        """The lines that aren't there. A workload has each of its sizes at all arities."""
+        for workload in [*NUMBERS, *WIDE, SEARCH]:
+            sizes = {items for name, items, _ in self.lines if name == workload}
+            for items in sorted(sizes.union(SIZES, SHOWN_SIZES if workload in SHOWN else [])):
+                for arity in arities_of(workload):
+                    if (workload, items, arity) not in self.lines:
+                        yield f"{workload}, arity {arity}, {items} items"
+
+    def of_one_run(self):
+        """The workloads of each size that only one run has."""
+        alone = defaultdict(dict)
+        for (workload, items, _), count in sorted(self.runs.items(), key=lambda it: it[0][1]):
+            if count == 1:
+                alone[items][workload] = None
+        return [f"Of one run alone, {items} items: {', '.join(names)}" for items, names in alone.items()]
+
+    def ratios(self, workloads, who, arities=ARITIES):
         """This heap's times over those of another, in all lines of these workloads that have both."""
-        groups = [group for workload in workloads for group in self.groups[workload].values()]
-        return [ratio for group in groups for ratio in there(over(line, who) for line in group)]
+        lines = [line for key, line in self.lines.items() if key[0] in workloads and key[2] in arities]
+        return there(over(line, who) for line in lines)
 
     def pops(self, arity, who):
         """The times of a pop by size."""
-        at = self.arities.index(arity)
+        at = ARITIES.index(arity)
         return {items: group[at][f"{who}_ns"] for items, group in self.groups["pop"].items()}
 
-    def best_arity(self, who):
-        """The arity whose pops take the least time on the mean of the sizes."""
-        return min(self.arities, key=lambda arity: geometric_mean(self.pops(arity, who).values()))
+
+def arities_of(workload):
+    return [SEARCH_ARITY] if workload == SEARCH else ARITIES
 
 
 def over(line, who):
@@ -118,6 +162,17 @@ def over(line, who):
 def there(numbers):
     """The numbers without those that aren't there."""
     return [number for number in numbers if not math.isnan(number)]
+
+
+def fixed(number, digits):
+    """The number with so many digits behind the point. Nothing if it isn't there."""
+    return "" if math.isnan(number) else f"{number:.{digits}f}"
+
+
+def mean(numbers):
+    """The geometric mean of those that are there."""
+    found = there(numbers)
+    return geometric_mean(found) if found else math.nan
 
 
 def listed(words):
@@ -139,62 +194,69 @@ def power(items):
 # The tables.
 
 
-def table(heads, rows, words=2):
-    """A table in Markdown. The first columns are words."""
+def table(heads, rows, words):
+    """A table in Markdown. So many of the first columns are words."""
     marks = ["---"] * words + ["--:"] * (len(heads) - words)
     return "\n".join(f"|{'|'.join(row)}|" for row in [heads, marks, *rows])
 
 
-def heads_of(name, arities):
+def heads_of(name, arities=ARITIES):
     return [f"{name}: {arities[0]}", *map(str, arities[1:])]
+
+
+def means(report, rows):
+    """For each name of workloads the mean at each arity over all their sizes, beside each other heap."""
+    heads = [head for who in report.beside for head in heads_of(BESIDE[who])]
+    columns = [(who, arity) for who in report.beside for arity in ARITIES]
+    cells = {
+        name: [fixed(mean(report.ratios(workloads, who, [arity])), 2) for who, arity in columns]
+        for name, workloads in rows.items()
+    }
+    return table(["", *heads], [[name, *row] for name, row in cells.items()], words=1)
 
 
 def ratio_cells(group, who):
     """The ratios at each arity, the quickest in bold. Beside the crate their mean follows."""
     ratios = [over(line, who) for line in group]
-    found = there(ratios)
-    cells = ["" if math.isnan(ratio) else f"{ratio:.2f}" for ratio in ratios]
-    if found == ratios:
+    cells = [fixed(ratio, 2) for ratio in ratios]
+    if len(there(ratios)) == len(ratios):
         most = min(line["here_ns"] for line in group) * ABOUT
         cells = [f"**{cell}**" if line["here_ns"] <= most else cell for cell, line in zip(cells, group)]
-    if who == "crate":
-        cells.append(f"{geometric_mean(found):.2f}" if found else "")
-    return cells
+    return [*cells, fixed(mean(ratios), 2)] if who == "crate" else cells
 
 
 def ratios(report, workloads):
     """A row a workload and size. For each other heap the ratios by arity."""
-    others = [who for who in OTHERS if report.ratios(workloads, who)]
     heads = ["", "items"]
-    for who in others:
-        heads += heads_of(f"over {OTHERS[who]}", report.arities) + ["mean"] * (who == "crate")
+    for who in report.beside:
+        heads += heads_of(BESIDE[who]) + ["mean"] * (who == "crate")
     rows = [
-        [name, power(items), *(cell for who in others for cell in ratio_cells(group, who))]
+        [name, power(items), *(cell for who in report.beside for cell in ratio_cells(group, who))]
         for workload, name in workloads.items()
         for items, group in report.groups[workload].items()
     ]
-    return table(heads, rows)
+    return table(heads, rows, words=2)
 
 
 def comparisons(report):
     """The comparisons an item."""
-    groups = {name: report.groups[workload][COMPARED] for workload, name in NUMBERS.items()}
-    rows = [[name, *(f"{line['here_comparisons']:.2f}" for line in group)] for name, group in groups.items()]
-    return table(["", *heads_of("arity", report.arities)], rows)
+    groups = {NUMBERS[workload]: report.groups[workload][COMPARED] for workload in SHOWN}
+    rows = [[name, *(fixed(line["here_comparisons"], 2) for line in group)] for name, group in groups.items()]
+    return table(["", *heads_of("arity")], rows, words=1)
 
 
 def summary(report):
     """What the table of numbers comes to, and the search."""
     texts = []
-    for who in ("crate", "rattle_std"):
+    for who, name in {"crate": "the crate", "rattle_std": "Rattle's std"}.items():
         found = report.ratios(NUMBERS, who)
         texts.append(
-            f"Over the {len(found)} figures beside {OTHERS[who]} the mean is {geometric_mean(found):.2f}, "
+            f"Over the {len(found)} figures beside {name} the mean is {mean(found):.2f}, "
             f"the least {min(found):.2f} and the greatest {max(found):.2f}."
         )
-    edges = listed(map(power, report.groups["shortest_path"]))
+    edges = listed(map(power, report.groups[SEARCH]))
     crate, std = (
-        listed(f"{ratio:.2f}" for ratio in report.ratios(["shortest_path"], who)) for who in ("crate", "std")
+        listed(f"{ratio:.2f}" for ratio in report.ratios([SEARCH], who, [SEARCH_ARITY])) for who in ("crate", "std")
     )
     texts.append(
         f"A search for a cheapest walk among {edges} edges takes {crate} of its time "
@@ -206,59 +268,53 @@ def summary(report):
 def by_kind(report):
     """What the table of wider items comes to, for each kind."""
     texts = []
-    for kind, name in KINDS.items():
-        found = report.ratios([f"{call}_{kind}" for call in CALLS], "crate")
-        texts.append(f"{geometric_mean(found):.2f} ({min(found):.2f} to {max(found):.2f}) for {name}")
+    for name in KINDS.values():
+        found = report.ratios(MEANS[name], "crate")
+        texts.append(f"{mean(found):.2f} ({min(found):.2f} to {max(found):.2f}) for {name}")
     return f"On the mean the time is {listed(texts)} of the crate's."
 
 
 def pop_series(report):
-    """For each line of the picture: its name, whose it is, its dashes, and the times by size."""
-    best, of_crate = report.best_arity("here"), report.best_arity("crate")
-    series = {
-        f"this heap, arity {best}": ("here", best, "-"),
-        "this heap, arity 2": ("here", 2, "-" if best == 2 else "--"),
-        f"the Rust crate, arity {of_crate}": ("crate", of_crate, "-"),
-        "Rattle's std, arity 2": ("rattle_std", 2, "-"),
-        "Rust's std, arity 2": ("std", 2, "-"),
-        "std::priority_queue": ("cpp", 2, "-"),
-    }
-    lines = [(name, who, dashes, report.pops(arity, who)) for name, (who, arity, dashes) in series.items()]
-    return [line for line in lines if there(line[3].values())]
+    """For each heap and its arity the times of a pop by size, if it is there."""
+    keys = [(who, arity) for who in AT_ARITIES for arity in ARITIES] + [(who, 2) for who in AT_TWO]
+    series = {key: report.pops(key[1], key[0]) for key in keys}
+    return {key: times for key, times in series.items() if there(times.values())}
 
 
 def pops(report):
-    """The nanoseconds of a pop: those of the picture, and then each arity."""
+    """The nanoseconds of a pop: a row a heap and arity."""
+    names = AT_ARITIES | AT_TWO
     series = pop_series(report)
-    heads = ["items", *(name for name, *_ in series), *heads_of("this heap, arity", report.arities)]
-    heads += heads_of("the crate, arity", report.arities)
-    columns = [times for *_, times in series]
-    columns += [report.pops(arity, who) for who in AT_ARITIES for arity in report.arities]
-    rows = [[power(items), *(f"{times[items]:.0f}" for times in columns)] for items in columns[0]]
-    return table(heads, rows, words=0)
+    rows = [
+        [names[who], str(arity), *(fixed(time, 0) for time in times.values())] for (who, arity), times in series.items()
+    ]
+    return table(["", "arity", *map(power, report.groups["pop"])], rows, words=1)
 
 
 BLOCKS = {
+    "left out": lambda report: f"Left out in this run: {listed(report.left_out)}."
+    if report.left_out
+    else "No heap was left out in this run.",
+    "means": lambda report: means(report, MEANS),
     "pops": pops,
+    "means by workload": lambda report: means(report, {name: [workload] for workload, name in NUMBERS.items()}),
     "numbers": lambda report: ratios(report, NUMBERS),
     "summary": summary,
     "wider items": lambda report: ratios(report, WIDE),
     "summary of wider items": by_kind,
     "comparisons": comparisons,
-    "left out": lambda report: f"Left out in this run: {listed(report.left_out)}."
-    if report.left_out
-    else "No heap was left out in this run.",
 }
 
 
-def fill(path, report):
-    """Fills what stands between the marks."""
-    text = path.read_text(encoding="utf-8")
+def filled(text, report):
+    """The text with what stands between its marks made anew."""
     for name, make in BLOCKS.items():
         first, last = f"<!-- {name} -->\n", f"<!-- end of {name} -->"
+        if text.count(first) != 1 or text.count(last) != 1:
+            sys.exit(f"The text hasn't the marks of '{name}'")
         before, rest = text.split(first)
         text = f"{before}{first}\n{make(report)}\n\n{last}{rest.split(last)[1]}"
-    path.write_text(text, encoding="utf-8")
+    return text
 
 
 def of_readme(report):
@@ -267,12 +323,22 @@ def of_readme(report):
     rows = []
     for workload in SHOWN:
         for items in SHOWN_SIZES:
-            two, four = (report.groups[workload][items][report.arities.index(arity)] for arity in (2, 4))
+            two, four = (report.lines[workload, items, arity] for arity in (2, 4))
             times = [line[f"{who}_ns"] for who in AT_ARITIES for line in (two, four)]
             times += [two["rattle_std_ns"], two["cpp_ns"]]
-            cells = ["" if math.isnan(time) else f"{time:.{int(time < 10)}f}" for time in times]
-            rows.append([NUMBERS[workload], power(items), *cells])
-    return table([*heads, "std's `BinaryHeap`", "`std::priority_queue`"], rows)
+            rows.append([NUMBERS[workload], power(items), *(fixed(time, int(time < 10)) for time in times)])
+    return table([*heads, "std's `BinaryHeap`", "`std::priority_queue`"], rows, words=2)
+
+
+def all_figures(report):
+    """All lines as a file of commas. What isn't there is left empty."""
+    file = io.StringIO()
+    writer = csv.writer(file, lineterminator="\n")
+    writer.writerow(["workload", "arity", "items", *next(iter(report.lines.values()))])
+    for (workload, items, arity), line in report.lines.items():
+        cells = [fixed(number, 2 if head.endswith("_ns") else 3) for head, number in line.items()]
+        writer.writerow([workload, arity, items, *cells])
+    return file.getvalue()
 
 
 # The pictures.
@@ -281,15 +347,28 @@ def of_readme(report):
 STYLE = {"svg.fonttype": "none", "svg.hashsalt": "dary_heap", "grid.alpha": 0.35}
 STYLE |= {"axes.grid": True, "axes.grid.axis": "y"}
 STYLE |= dict.fromkeys(["text.color", "axes.edgecolor", "axes.labelcolor", "xtick.color", "ytick.color"], "#717a84")
-COLOURS = {"here": "C0", "crate": "C1", "rattle_std": "C2", "std": "C7", "cpp": "C4"}
+# An arity has one colour and mark. This heap's lines are solid, the crate's dashed, and the others thin and grey.
+LOOKS = {2: ("C0", "o"), 4: ("C1", "s"), 8: ("C2", "^")}
+DASHES = {"here": "-", "crate": "--", "rattle_std": "-", "std": "--", "cpp": ":"}
+GREY = {"color": "#9aa2aa", "linewidth": 0.8}
+
+
+def draw(axes, who, times, look, name):
+    """Draws a line of this heap, with full marks, or of the crate, with hollow ones."""
+    colour, mark = look
+    filling = colour if who == "here" else "none"
+    cells = {"color": colour, "marker": mark, "markersize": 5, "markerfacecolor": filling}
+    axes.plot(list(times), list(times.values()), DASHES[who], label=name, **cells)
 
 
 def pop_picture(report):
     """The times of a pop by the number of items. Both axes are logarithmic."""
-    figure, axes = plt.subplots(figsize=(9, 4.3))
-    # In the order of their ends.
-    for name, who, dashes, times in sorted(pop_series(report), key=lambda one: -max(one[3].items())[1]):
-        axes.plot(list(times), list(times.values()), dashes, color=COLOURS[who], label=name)
+    figure, axes = plt.subplots(figsize=(9, 4.6))
+    for (who, arity), times in pop_series(report).items():
+        if who in AT_TWO:
+            axes.plot(list(times), list(times.values()), DASHES[who], marker=".", label=AT_TWO[who], **GREY)
+        elif arity in LOOKS:
+            draw(axes, who, times, LOOKS[arity], f"{AT_ARITIES[who]}, arity {arity}")
     axes.set(xscale="log", yscale="log", xlabel="items, of 8 bytes", ylabel="nanoseconds of a pop")
     axes.yaxis.set(major_locator=LogLocator(subs=(1, 2, 5)), major_formatter="{x:,.0f}")
     axes.yaxis.set(minor_formatter=NullFormatter())
@@ -306,19 +385,26 @@ def arity_picture(report):
         row[0].set_ylabel(f"{items:,} items: ns each")
         for workload, axes in zip(DRAWN, row):
             axes.set_title(NUMBERS[workload], fontsize="medium")
-            draw_by_arity(axes, report.arities, report.groups[workload][items])
+            draw_by_arity(axes, report.groups[workload][items])
     figure.legend(*panels[0][0].get_legend_handles_labels(), loc="lower left", bbox_to_anchor=(0, 1), ncols=4)
     return figure
 
 
-def draw_by_arity(axes, arities, group):
-    for who in AT_ARITIES:
-        name = "this heap" if who == "here" else "the Rust crate"
-        axes.plot(arities, [line[f"{who}_ns"] for line in group], "o-", color=COLOURS[who], label=name)
+def draw_by_arity(axes, group):
+    for who, name in AT_ARITIES.items():
+        draw(axes, who, {arity: line[f"{who}_ns"] for arity, line in zip(ARITIES, group)}, ("C3", "o"), name)
     for who in ("rattle_std", "std"):
-        name = f"{OTHERS[who]}, of arity 2"
-        axes.axhline(group[0][f"{who}_ns"], linestyle=":", color=COLOURS[who], label=name)
-    axes.set(xticks=arities, xlabel="arity", ylim=(0, None))
+        name = f"{AT_TWO[who]}, of arity 2"
+        axes.axhline(group[0][f"{who}_ns"], linestyle=DASHES[who], label=name, **GREY)
+    axes.set(xticks=ARITIES, xlabel="arity", ylim=(0, None))
+
+
+def svg(figure):
+    """The text of a picture."""
+    picture = io.StringIO()
+    figure.savefig(picture, format="svg", transparent=True, bbox_inches="tight", metadata={"Date": None})
+    # Its lines carry nothing.
+    return " ".join(picture.getvalue().split()) + "\n"
 
 
 def main():
@@ -326,15 +412,16 @@ def main():
         sys.exit(__doc__)
     *paths, speed, folder = sys.argv[1:]
     report = Report(paths)
-    fill(Path(speed), report)
+    texts = {Path(speed): filled(Path(speed).read_text(encoding="utf-8"), report)}
+    texts[Path(folder, "speed.csv")] = all_figures(report)
     with plt.rc_context(STYLE):
-        for name, draw in {"pop.svg": pop_picture, "speed.svg": arity_picture}.items():
-            picture = io.StringIO()
-            draw(report).savefig(picture, format="svg", transparent=True, bbox_inches="tight", metadata={"Date": None})
-            # Its lines carry nothing.
-            text = " ".join(picture.getvalue().split()) + "\n"
-            Path(folder, name).write_text(text, encoding="utf-8")
+        texts[Path(folder, "pop.svg")] = svg(pop_picture(report))
+        texts[Path(folder, "speed.svg")] = svg(arity_picture(report))
     print(of_readme(report))
+    for text in report.of_one_run():
+        print(text, file=sys.stderr)
+    for path, text in texts.items():
+        path.write_text(text, encoding="utf-8")
 
 
 if __name__ == "__main__":
