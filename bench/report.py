@@ -95,23 +95,20 @@ def read(path):
 def least(line, other):
     """The least of each number of two lines of the same, and this heap's times over those of the others."""
     cells = {head: min(there([number, other[head]]), default=math.nan) for head, number in line.items()}
-    return {head: over(cells, head[5:]) if head.startswith("over_") else cells[head] for head in cells}
+    ratios = [head for head in line if head.startswith("over_")]
+    return cells | {head: over(cells, head.removeprefix("over_")) for head in ratios}
 
 
 class Report:
     """The lines of runs with the least times, and what one of them left out."""
 
     def __init__(self, paths):
-        lines, self.left_out, self.runs = {}, [], Counter()
+        self.lines, self.left_out, self.runs = {}, [], Counter()
         for path in paths:
-            found, left_out = read(path)
-            self.left_out += [it for it in left_out if it not in self.left_out]
-            for key, line in found:
-                lines[key] = least(line, lines.get(key, line))
-                self.runs[key] += 1
+            self.add(*read(path))
         # By workload in the order of the program, then by size, then by arity.
-        order = list(dict.fromkeys(workload for workload, *_ in lines))
-        self.lines = dict(sorted(lines.items(), key=lambda it: (order.index(it[0][0]), it[0])))
+        order = list(dict.fromkeys(workload for workload, *_ in self.lines))
+        self.lines = dict(sorted(self.lines.items(), key=lambda it: (order.index(it[0][0]), it[0])))
         missing = list(self.missing())
         if missing:
             sys.exit("\n".join(["These lines are missing:", *missing]))
@@ -121,6 +118,13 @@ class Report:
             if arity in arities_of(workload):
                 self.groups[workload][items].append(line)
         self.beside = [who for who in BESIDE if self.ratios(NUMBERS, who)]
+
+    def add(self, lines, left_out):
+        """Adds a run."""
+        self.left_out += [it for it in left_out if it not in self.left_out]
+        for key, line in lines:
+            self.lines[key] = least(line, self.lines.get(key, line))
+            self.runs[key] += 1
 
     def missing(self):
         """The lines that aren't there. A workload has each of its sizes at all arities."""
