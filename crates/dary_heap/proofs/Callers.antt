@@ -1,5 +1,5 @@
 -- The laws that proofs of callers need, found by `rt lemma`: what a list holds, bags, greatest items, pops in a row, heaps of `Reverse`, and comparisons.
-use Rattle.dary_heap.proofs.{set, slice_get-set_other, IsHeapOrderedButAt, IsAtMost-by, IsAtMost-over, sum_by, sum_by-set, sum_by-IsPermutation, AllByRecursion, Command, Reply, Runs, ◌≡◌, ◌≢◌, ℕ, ◌+◌, ◌<◌, ◌≤◌, min, Bool, true, false, if◌then◌else◌, IfSome, List, [], ◌∷◌, ◌++◌, length, map, slice_set, All, Contains, Option, Some, None, Result, Ok, Err, Vec, arith, refl, sym, ap, ◌∙◌, subst, inl, inr, length-append, IsTotalOrder, Yields, nat_cmp, is_lt, ordering_reverse, ordering_then, Global, Ordering, Less, Greater, cases_lt, All-contains, All-contains_itself, All-weaker, Contains-append_cases, length_permutation, IsPermutation-refl, IsPermutation-sym, IsPermutation-trans, IsPermutation-cons, IsPermutation-middle, IsPermutation-append_left, IsSameBag, IsGreatest, Contents, IsPop, IsDescending, IsGivenDescending, front, zero, suc, get_or, slice_get, get_or_from_slice_get, slice_get_within, parent, IsHeapOrdered, alone, not_less, read}
+use Rattle.dary_heap.proofs.{set, slice_get-set_other, IsHeapOrderedButAt, IsAtMost-by, IsAtMost-over, sum_by, sum_by-set, sum_by-IsPermutation, AllByRecursion, Command, Reply, Runs, ◌≡◌, ◌≢◌, ℕ, ◌+◌, ◌<◌, ◌≤◌, min, Bool, true, false, if◌then◌else◌, List, [], ◌∷◌, ◌++◌, length, map, slice_set, All, Contains, Option, Some, None, Result, Ok, Err, Vec, arith, refl, sym, ap, ◌∙◌, subst, inl, inr, length-append, IsTotalOrder, Yields, nat_cmp, is_lt, ordering_reverse, ordering_then, Global, Ordering, Less, Greater, cases_lt, All-contains, All-contains_itself, All-weaker, Contains-append_cases, length_permutation, IsPermutation-refl, IsPermutation-sym, IsPermutation-trans, IsPermutation-cons, IsPermutation-middle, IsPermutation-append_left, IsSameBag, IsGreatest, Contents, IsPop, IsDescending, IsGivenDescending, front, zero, suc, get_or, slice_get, get_or_from_slice_get, slice_get_within, parent, IsHeapOrdered, alone, not_less, read}
 use Rattle.std.proofs.Common.{IfOk, OnOk, is_ok}
 use Rattle.std.specs.Iterator.Adapters.{take_count, take_source, take_steps}
 use Rattle.std.specs.Ordering.{is_some_and}
@@ -235,11 +235,6 @@ nat_le_from_cmp a b h = by_ranked (a < b) (a ≡ b) (b < a) (nat_cmp a b) (ranke
 -- numbers that are compared first, and whatever else if they are equal, as a derived `Ord` compares them
 pub nat_le_from_first : (a b : ℕ) (rest : Ordering) → ordering_then (nat_cmp a b) rest ≢ Greater → a ≤ b
 nat_le_from_first a b rest h = nat_le_from_cmp a b (λ is. h (ap (λ (o : Ordering). ordering_then o rest) is))
-
--- by a judge for which the lesser number is the greater, what no item exceeds has a least number
-pub least_by : {X : Type 0} (number : X → ℕ) (items : List X) (found : Option X) → IfSome found (IsGreatest (λ a b. nat_cmp (number b) (number a)) items) → IfSome found (λ item. (other : X) → Contains items other → number item ≤ number other)
-least_by number items None h = tt
-least_by number items (Some item) h = λ other in'. nat_le_from_cmp (number item) (number other) (h.none_above other in')
 
 -- ---- what proofs of callers of std's heap have, of this one: heap order at arity 2, places in descending order, room for what an iterator gives, and an outcome whose error was mapped
 

@@ -32,7 +32,7 @@ pub use Rattle.std.specs.declared.cmp.Ordering.TheVariants.{Equal, Greater, Less
 pub use Rattle.dary_heap.specs.Asking.{IsCallableOn, TakesInTurn, items_in, predicates_in, written}
 pub use Rattle.dary_heap.specs.Bag.{IsGreatest, IsGreatest-same_bag, IsSameBag}
 pub use Rattle.dary_heap.specs.Bounds.{RisesWithin, build_bound, charge, fix_bound, mend_bound, pop_bound, pops_bound, push_bound, refreshes, sink_bound}
-pub use Rattle.dary_heap.specs.Choosing.{Chooses, FindsGreatestChild, IsAt, IsBelow, IsGreatestAt}
+pub use Rattle.dary_heap.specs.Choosing.{Chooses, FindsGreatestChild, HasChildrenFrom, IsAt, IsBelow, IsFirstChild, IsGreatestAt}
 pub use Rattle.dary_heap.specs.Contents.{Contents}
 pub use Rattle.dary_heap.specs.Drain.{drain_rest}
 pub use Rattle.dary_heap.specs.DrainSorted.{DrainsSorted, KeepsHeapAlong, drained_heap}
@@ -44,7 +44,7 @@ unfoldable pub use Rattle.dary_heap.specs.HeapOrder.{depth}
 pub use Rattle.dary_heap.specs.Hole.{filled}
 pub use Rattle.dary_heap.specs.Loan.{IsExceeded, IsLent-written}
 pub use Rattle.dary_heap.specs.Machine.{Act, Acts, Append, Ask, Asked, Changed, Clear, Command, Done, Drain, DrainSorted, End, Ends, Extend, ExtendRefused, Len, Loan, Loaned, Old, Pop, PopIf, Popped, Pops, PopsInTurn, Push, Pushed, PutBack, Refresh, Reply, Reserve, Retain, Seen, Shrink, Size, Step, Steps, TakeOut, Taken, Write, last_state}
-pub use Rattle.dary_heap.specs.Moving.{ComesTo, SiftsDown, SiftsToBottom, SiftsUp}
+pub use Rattle.dary_heap.specs.Moving.{ComesTo, Exceeds, GoesDown, GoesDownBy, SiftsDown, SiftsToBottom, SiftsUp}
 pub use Rattle.dary_heap.specs.PeekMut.{loaned}
 pub use Rattle.dary_heap.specs.Popping.{GivesDescending, IsDescending, IsGivenDescending, IsPop}
 pub use Rattle.dary_heap.specs.Run.{IsServed, Runs, Serves, room, sure_after}

@@ -1,6 +1,6 @@
-//! The functions that `CALLING.md` of `dary_heap` shows word for word and the README without contracts, and others.
+//! The functions that the README shows without contracts, and others.
 ghost use Rattle.std.specs.Ordering.{nat_cmp};
-ghost use Rattle.std.specs.Prelude.{◌≡◌, ◌<◌, ◌≤◌, ◌↔◌, ◌∷◌, [], ℕ, nat_le, All, drop, filter, length, Some, IsSome, IsTrue, IfSome, IfNone, IfOk, IfErr};
+ghost use Rattle.std.specs.Prelude.{◌≡◌, ◌<◌, ◌≤◌, ◌↔◌, ◌∷◌, [], ℕ, All, drop, length, Some, IsSome, IsTrue, IfSome, IfNone, IfOk, IfErr};
 ghost use Rattle.dary_heap.specs.Bag.{IsGreatest, IsSameBag};
 ghost use Rattle.dary_heap.specs.HeapOrder.{IsHeapOrdered};
 ghost use Rattle.dary_heap.specs.State.{front};
@@ -66,18 +66,6 @@ pub fn lower(heap: &mut BinaryHeap<u32>, bound: u32)
 pub fn are_at_most<const D: usize>(heap: &DaryHeap<u32, D>, bound: u32) -> bool
     ensures { IsTrue result ↔ All (λ number. number ≤ bound) heap.now.items }
 {
-    for number in heap {
-        if bound < *number {
-            return false;
-        }
-    }
-    true
-}
-
-/// Returns the same as [`are_at_most`], by an adapter.
-pub fn are_at_most_by_all<const D: usize>(heap: &DaryHeap<u32, D>, bound: u32) -> bool
-    ensures { IsTrue result ↔ All (λ number. number ≤ bound) heap.now.items }
-{
     heap.iter().all(|number| *number <= bound)
 }
 
@@ -91,14 +79,4 @@ pub fn greatest_two<const D: usize>(heap: &mut DaryHeap<u32, D>) -> Option<(u32,
     let first = numbers.next()?;
     let second = numbers.next()?;
     Some((first, second))
-}
-
-/// Drops the numbers below the bound.
-#[tactic(auto, using(dary_heap::proofs::Callable::takes_in_turn))]
-pub fn keep_from(heap: &mut TernaryHeap<u32>, bound: u32)
-    ensures kept { IsSameBag
-        (filter (λ number. nat_le bound number) heap.old.items) heap.new.items }
-    ensures capacity { heap.new.capacity ≡ heap.old.capacity }
-{
-    heap.retain(|number| bound <= *number);
 }

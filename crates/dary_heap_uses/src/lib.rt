@@ -3,11 +3,9 @@
 #![tactic(auto)]
 
 pub mod calling;
-pub mod deadlines;
 pub mod exchange;
 pub mod from_std;
 pub mod greatest;
-pub mod jobs;
 pub mod least_first;
 pub mod merge;
 pub mod places;

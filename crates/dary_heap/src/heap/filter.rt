@@ -120,11 +120,16 @@ fn keep<T: Drop, F: FnMut(&T) -> bool>(items: &mut Vec<T>, mut f: F) -> usize
         × (result ≡ first_no answers) }
     ensures capacity { vec_capacity items.new ≡ vec_capacity items.old }
 {
-    let mut kept = 0;
     let mut start = 0;
-    for place in 0..items.len() {
+    while start < items.len() && f(&items[start]) {
+        start += 1;
+    }
+    if start == items.len() {
+        return start;
+    }
+    let mut kept = start;
+    for place in start + 1..items.len() {
         let stays = f(&items[place]);
-        start += (stays & (start == place)) as usize;
         // An item that goes changes places too, so that there is no branch.
         items.swap(kept, place);
         kept += stays as usize;

@@ -1,14 +1,12 @@
 //! The choice of the greatest child of a place, and of the last if several are equal.
 //!
-//! A whole row has three forms of it, with the same result and comparisons. Most rows are chosen from without a
-//! branch, an item with its place, so that the next comparison waits for no load; but the load of the next row
-//! waits for the choice. Two items may be chosen from by their places alone. In slices that are longer than the
-//! caches the choice branches: the processor guesses, and loads the next row early. A wrong guess costs some 20
-//! cycles, and a row from main memory some 300.
-ghost use Rattle.std.specs.Prelude.{◌≡◌, ◌+◌, ◌-◌, ◌/◌, ◌≤◌, ℕ, List};
+//! A row is chosen from without a branch: of two items by their places, of more an item with its place, so that
+//! the next comparison waits for no load. But the load of the next row waits for the choice. In slices that are
+//! longer than the caches a choice with branches is faster: the processor guesses, and loads the next row early. A
+//! wrong guess costs some 20 cycles, and a row from main memory some 300.
+ghost use Rattle.std.specs.Prelude.{◌≡◌, ◌+◌, ◌<◌, ℕ, List};
 ghost use Rattle.std.specs.declared.cmp.Ordering.{Ordering};
-ghost use Rattle.dary_heap.specs.HeapOrder.{arity};
-ghost use Rattle.dary_heap.specs.Choosing.{Chooses, FindsGreatestChild, IsAt, IsBelow, IsGreatestAt};
+ghost use Rattle.dary_heap.specs.Choosing.{Chooses, FindsGreatestChild, HasChildrenFrom, IsBelow, IsFirstChild, IsGreatestAt};
 
 use super::Judge;
 use crate::hole::Hole;
@@ -49,7 +47,7 @@ fn place_of_two<T, J: Judge<T>>(hole: &Hole<T>, first: usize, judge: &mut J) -> 
     first + judge.at_most(hole.get(first), hole.get(first + 1)) as usize
 }
 
-/// Returns the last greatest of two items with its place. The next three choose among more.
+/// Returns the last greatest of two items with its place.
 #[inline(always)]
 fn greatest_of_two<'a, T, J: Judge<T>>(
     hole: &'a Hole<T>,
@@ -63,6 +61,7 @@ fn greatest_of_two<'a, T, J: Judge<T>>(
     greater_of(item_at(hole, first), item_at(hole, first + 1), judge)
 }
 
+/// Returns the last greatest of three items with its place.
 #[inline(always)]
 fn greatest_of_three<'a, T, J: Judge<T>>(
     hole: &'a Hole<T>,
@@ -77,6 +76,7 @@ fn greatest_of_three<'a, T, J: Judge<T>>(
     greater_of(left, item_at(hole, first + 2), judge)
 }
 
+/// Returns the last greatest of four items with its place.
 #[inline(always)]
 fn greatest_of_four<'a, T, J: Judge<T>>(
     hole: &'a Hole<T>,
@@ -92,6 +92,7 @@ fn greatest_of_four<'a, T, J: Judge<T>>(
     greater_of(left, right, judge)
 }
 
+/// Returns the last greatest of eight items with its place.
 #[inline(always)]
 fn greatest_of_eight<'a, T, J: Judge<T>>(
     hole: &'a Hole<T>,
@@ -147,62 +148,57 @@ pub(super) fn guessed<T, J: Judge<T>>(
     best
 }
 
-/// Returns the last greatest child of the hole, which is at `at` of `len` places, or `None` if it has none.
+/// Returns where the children of place `at` begin among `len` places, or `None` if it has none.
 #[inline(always)]
-pub(super) fn greatest_child<T, J: Judge<T>, const D: usize, const GUESSES: bool>(
-    hole: &Hole<T>,
-    at: usize,
-    len: usize,
-    judge: &mut J,
-) -> Option<usize>
-    requires { IsAt hole.now at len }
-    ensures { FindsGreatestChild J.order D hole.now result (J.count judge.old) (J.count judge.new) }
+pub(super) fn first_child<const D: usize>(at: usize, len: usize) -> Option<usize>
+    requires { at < len }
+    ensures { IsFirstChild D at len result }
 {
     let arity = D.max(1);
-    if (len - 1) / arity <= at {
-        return greatest_of_cut::<T, J, D>(hole, at, len, judge);
+    // Each place before this one has a whole row of children. This one has what is left, if anything.
+    let whole = (len - 1) / arity;
+    if at < whole {
+        return Some(at * arity + 1);
+    }
+    if whole < at {
+        return None;
     }
     let first = at * arity + 1;
-    if GUESSES {
-        return Some(guessed(hole, first, first + arity, judge));
-    }
-    Some(match D {
-        2 => place_of_two(hole, first, judge),
-        3 => greatest_of_three(hole, first, judge).0,
-        4 => greatest_of_four(hole, first, judge).0,
-        8 => greatest_of_eight(hole, first, judge).0,
-        _ => last_greatest(hole, first, first + arity, judge).0,
-    })
+    if first < len { Some(first) } else { None }
 }
 
-/// The same if no whole row is below the hole: its children are the last places, if it has any.
+/// Returns the last greatest child of the hole, which is at `at` of `len` places and whose children begin at
+/// `first`.
 #[inline(always)]
-fn greatest_of_cut<T, J: Judge<T>, const D: usize>(
+pub(super) fn greatest_child<T, J: Judge<T>, const D: usize>(
     hole: &Hole<T>,
     at: usize,
+    first: usize,
     len: usize,
     judge: &mut J,
-) -> Option<usize>
-    requires here { IsAt hole.now at len }
-    requires cut { (len - 1) / arity D ≤ at }
+) -> usize
+    requires { HasChildrenFrom D hole.now at first len }
     ensures { FindsGreatestChild J.order D hole.now result (J.count judge.old) (J.count judge.new) }
 {
     let arity = D.max(1);
-    if (len - 1) / arity < at {
-        return None;
+    if at < (len - 1) / arity {
+        return match D {
+            2 => place_of_two(hole, first, judge),
+            3 => greatest_of_three(hole, first, judge).0,
+            4 => greatest_of_four(hole, first, judge).0,
+            8 => greatest_of_eight(hole, first, judge).0,
+            _ => last_greatest(hole, first, first + arity, judge).0,
+        };
     }
-    let first = at * arity + 1;
-    let count = len - first;
-    if count == 0 {
-        return None;
-    }
+
+    // The row is the last, and cut off by the end: of a row of two one item is left.
     if D <= 2 {
-        return Some(first);
+        return first;
     }
-    Some(match count {
+    match len - first {
         1 => first,
         2 => place_of_two(hole, first, judge),
         3 => greatest_of_three(hole, first, judge).0,
         _ => last_greatest(hole, first, len, judge).0,
-    })
+    }
 }

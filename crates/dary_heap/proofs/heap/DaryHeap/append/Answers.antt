@@ -1,5 +1,6 @@
 use Rattle.dary_heap.proofs.Common.{◌++◌, length, length-append, ap, ◌∙◌, arith, IsPermutation-trans, length_permutation, IsPermutation-append_comm}
 use Rattle.dary_heap.proofs.heap.DaryHeap.append.Goals as goal
+use Rattle.dary_heap.proofs.Order.{none_ordered}
 use Rattle.dary_heap.proofs.heap.DaryHeap.append.Goals.{then-len+in-Ok, else-len+in-Ok-reserve}
 
 pub returns-clause-bag : goal.returns-clause-bag
@@ -28,3 +29,20 @@ returns-clause-same_items g c = λ none.
 
 pub returns-clause-len : goal.returns-clause-len
 returns-clause-len g c = length_permutation _ _ (returns-clause-bag g c) ∙ length-append c.args.self.now.items c.args.other.now.items
+
+-- the longer heap is ordered, and so is what it is mended to
+pub invariant_of-self-2 : goal.invariant_of-self-2
+invariant_of-self-2 g c = c.take_in.ensures.ordered (elim c.if-len.branch [
+  | then-len+in-Ok w ↦ rw (w.self-inside-is, w.swap.ensures.x_after, w.reserve.ensures.items) c.other.invariant
+  | else-len+in-Ok-reserve w ↦ rw (w.self-inside-is, w.reserve-else-len.ensures.items) c.self.invariant
+])
+
+pub returns-clause-ordered : goal.returns-clause-ordered
+returns-clause-ordered g c = invariant_of-self-2 g c
+
+-- the shorter heap has no items then
+pub invariant_of-other-2 : goal.invariant_of-other-2
+invariant_of-other-2 g c = none_ordered _ c.take_in.ensures.emptied
+
+pub returns-clause-other_ordered : goal.returns-clause-other_ordered
+returns-clause-other_ordered g c = none_ordered _ c.take_in.ensures.emptied

@@ -55,3 +55,7 @@ returns-clause-ran g c =
       rw (written_back _ _ _ (all g here)) (taken g here),
       MatchResult-weaker c.push_all-outcome.result k.2 (λ u drains. drains) (λ e refused. Yields-front g.U.IntoIter.Iterator.next_gives c.into_iter-iter.result k.0 refused.refused refused.left refused.gave),
     )
+
+-- what the call asks of the iterator that comes is what it was told
+pub push_all-outcome-requires : goal.push_all-outcome-requires
+push_all-outcome-requires g c = c.requires c.into_iter-iter.result c.into_iter-iter.ensures.into_iter_gives
