@@ -7,7 +7,8 @@ use dary_heap::shortest_path::PathRefusal;
 use dary_heap_uses::merge::merge;
 use dary_heap_uses::roads::{Road, is_joining, shortest_route};
 use dary_heap_uses::scheduler::Scheduler;
-use dary_heap_uses::simulation::{Event, Handler, Simulation};
+use dary_heap_uses::simulation::{Handler, Simulation};
+use dary_heap_uses::timers::Timer;
 use std::alloc::{AllocError, Global};
 use std::process::Abort;
 
@@ -128,7 +129,7 @@ fn a_job_past_the_room_comes_back(rt: HostRuntime) -> Tested {
     Ok(())
 }
 
-/// Balls that bounce. The kind of an event is the height of a bounce: the next one comes as many moments
+/// Balls that bounce. The name of an event is the height of a bounce: the next one comes as many moments
 /// later, and is half as high.
 #[derive(Drop)]
 struct Balls {
@@ -139,13 +140,13 @@ struct Balls {
 impl Handler for Balls {
     ghost handles = { λ before event scheduled after. Unit {0} };
 
-    fn handle(&mut self, event: Event) -> Vec<Event> {
-        let _ = self.heights.push(event.kind);
+    fn handle(&mut self, event: Timer) -> Vec<Timer> {
+        let _ = self.heights.push(event.name);
         let mut scheduled = Vec::new(self.alloc);
-        if event.kind > 0 {
-            let _ = scheduled.push(Event {
-                moment: event.moment.saturating_add(u64::from(event.kind)),
-                kind: event.kind / 2,
+        if event.name > 0 {
+            let _ = scheduled.push(Timer {
+                moment: event.moment.saturating_add(u64::from(event.name)),
+                name: event.name / 2,
             });
         }
         scheduled
@@ -160,8 +161,8 @@ fn balls_bounce_in_the_order_of_moments(rt: HostRuntime) -> Tested {
     };
     let mut simulation = Simulation::new(rt.alloc());
     simulation.reserve(2)?;
-    simulation.schedule(Event { moment: 3, kind: 5 })?;
-    simulation.schedule(Event { moment: 0, kind: 8 })?;
+    simulation.schedule(Timer { moment: 3, name: 5 })?;
+    simulation.schedule(Timer { moment: 0, name: 8 })?;
     // Bounces at 0 and 3, and two at 8.
     assert_eq!(rt; simulation.run(&mut balls, 9, 100), Ok(4));
     assert_eq!(rt; simulation.moment(), 8);

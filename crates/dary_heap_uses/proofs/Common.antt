@@ -1,5 +1,5 @@
 -- What the proofs of this crate import from elsewhere: names of std, of the logic and of `specs`.
-pub use Rattle.std.proofs.Common.{All, Bool, Contains, Err, IfNone, IfOk, IfSome, IsOk, List, None, Ok, OnErr, OnOk, Option, Result, Some, Vec, [], ap, append-nil, append_assoc, arith, drop, false, get_or, get_or-set_other, get_or-set_same, inl, inr, leb, length, length-append, length-set, ltb, map, min, nat_eq, not, refl, rules, slice_get, slice_set, subst, suc, sym, take, true, vec_capacity, vec_len, zero, ℕ, ◌&&◌, ◌*◌, ◌++◌, ◌+◌, ◌-◌, ◌<◌, ◌∙◌, ◌∷◌, ◌≡◌, ◌≢◌, ◌≤◌, ◌⊎◌}
+pub use Rattle.std.proofs.Common.{All, Bool, Contains, Err, IfNone, IfSome, IsOk, List, None, Ok, OnErr, OnOk, Option, Result, Some, Vec, [], ap, append-nil, append_assoc, arith, drop, false, get_or, get_or-set_other, get_or-set_same, inl, inr, leb, length, length-append, length-set, ltb, map, min, nat_eq, not, refl, rules, slice_get, slice_set, subst, suc, sym, take, true, vec_capacity, vec_len, zero, ℕ, ◌&&◌, ◌*◌, ◌++◌, ◌+◌, ◌-◌, ◌<◌, ◌∙◌, ◌∷◌, ◌≡◌, ◌≢◌, ◌≤◌, ◌⊎◌}
 pub use Rattle.std.proofs.lemmas.Bool.{cases_eq, cases_lt, true≢false}
 pub use Rattle.std.proofs.lemmas.Fn.{FoldsTo-push, filter_same}
 pub use Rattle.std.proofs.lemmas.Iterator.Adapters.{YieldsList-from_vec, at_most_from_yields_List, fact_from_extend}
@@ -18,21 +18,19 @@ pub use Rattle.std.specs.declared.alloc.Global.{Global}
 pub use Rattle.std.specs.declared.cmp.Ordering.{Ordering}
 pub use Rattle.std.specs.declared.cmp.Ordering.TheVariants.{Equal, Greater, Less}
 pub use Rattle.std.specs.declared.cmp.Reverse.{Reverse}
-pub use Rattle.dary_heap.proofs.Callers.{Contains-cases, Contains-first, Contains-later, Contains-map, IsGivenDescending-pop, IsGreatest-overtaken, IsGreatest-stays, IsSameBag-moved, IsSameBag-written, came_cases, came_first, came_later, cmp_from_lt, cmp_from_not_lt, descending_at, extend_fits, front_cases, has_none, holds_none, nat_le_from_cmp, nat_le_from_first, not_greater-less, not_greater-trans, on_ok_of, ordered_but_at, ordered_from_std_heap, overwritten, pop_if_no, pop_if_yes, reversed_all_above, reversed_all_came, reversed_all_left, reversed_came, reversed_least, reversed_least_key, reversed_went, std_heap_from_ordered, take_pops, upper_bound, upper_bound_left}
+pub use Rattle.dary_heap.proofs.Callers.{Contains-cases, Contains-map, IsGivenDescending-pop, IsGreatest-overtaken, IsGreatest-stays, IsPermutation-uncons, IsSameBag-written, came_first, came_later, cmp_from_lt, cmp_from_not_lt, descending_at, extend_fits, front_cases, has_none, holds_none, nat_le_from_cmp, nat_le_from_first, not_greater-less, not_greater-trans, on_ok_of, ordered_from_std_heap, overwritten, pop_if_no, pop_if_yes, reversed_all_above, reversed_came, reversed_least, reversed_least_key, reversed_went, std_heap_from_ordered, take_pops, upper_bound, upper_bound_left}
 pub use Rattle.dary_heap.proofs.Depth.{depth-later, depth-parent, times_depth-later}
 pub use Rattle.dary_heap.specs.Bag.{IsGreatest, IsSameBag}
-pub use Rattle.dary_heap.specs.Bounds.{RisesWithin, pop_bound, pops_bound, push_bound}
+pub use Rattle.dary_heap.specs.Bounds.{RisesWithin, pop_bound, pops_bound, push_bound, sink_bound}
 pub use Rattle.dary_heap.specs.Contents.{Contents}
 pub use Rattle.dary_heap.specs.PeekMut.{is_written, lender, loaned}
-pub use Rattle.dary_heap.specs.Popping.{IsDescending, IsGivenDescending, IsPop}
+pub use Rattle.dary_heap.specs.Popping.{IsGivenDescending}
 pub use Rattle.dary_heap.specs.State.{front}
 pub use Rattle.dary_heap_uses.specs.Keeping.{KeepsGreatest, values}
-pub use Rattle.dary_heap_uses.specs.LeastFirst.{IsLeast}
 pub use Rattle.dary_heap_uses.specs.Merging.{IsCut, head, heads_of, joined}
 pub use Rattle.dary_heap_uses.specs.Routes.{HasTooLong, IsMap, IsRoad, IsRoute, IsShortest, along, miles_of}
 pub use Rattle.dary_heap_uses.specs.Scheduling.{IsNumbered, IsTaken, added}
 pub use Rattle.dary_heap_uses.specs.Simulation.{Agenda, IsRun, NeverGoesBack, Step, pushes_bound, scheduled_in, steps_bound}
 pub use Rattle.dary_heap_uses.specs.Timers.{IsEarliest, Timers}
 pub use Rattle.dary_heap_uses.specs.declared.roads.Road.{Road}
-pub use Rattle.dary_heap_uses.specs.declared.simulation.Event.{Event}
 pub use Rattle.dary_heap_uses.specs.declared.timers.Timer.{Timer}

@@ -1,5 +1,4 @@
 pub mod Common
-pub mod FirstFew
 pub mod Keeping
 pub mod Merging
 pub mod Routes

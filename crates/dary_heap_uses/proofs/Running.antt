@@ -1,9 +1,9 @@
 -- The steps of a simulation, one more at a time.
-use Rattle.dary_heap_uses.proofs.Common.{◌≡◌, ℕ, zero, suc, ◌+◌, ◌-◌, ◌≤◌, List, [], ◌∷◌, ◌++◌, length, map, take, arith, refl, sym, ap, ◌∙◌, subst, append-nil, append_assoc, length-append, FoldsTo-push, map-append, All-nil, All-push, length_permutation, IsPermutation-refl, IsPermutation-trans, IsPermutation-cons, IsPermutation-append_left, IsPermutation-append_right, IsPermutation-append_comm, IsPermutation-to_front, IsSameBag, RisesWithin, push_bound, pop_bound, Agenda, Step, scheduled_in, pushes_bound, steps_bound, NeverGoesBack, IsRun, Event}
+use Rattle.dary_heap_uses.proofs.Common.{◌≡◌, ℕ, zero, suc, ◌+◌, ◌-◌, ◌≤◌, List, [], ◌∷◌, ◌++◌, length, map, take, arith, refl, sym, ap, ◌∙◌, subst, append-nil, append_assoc, length-append, FoldsTo-push, map-append, All-nil, All-push, length_permutation, IsPermutation-refl, IsPermutation-trans, IsPermutation-cons, IsPermutation-append_left, IsPermutation-append_right, IsPermutation-append_comm, IsPermutation-to_front, IsSameBag, RisesWithin, push_bound, pop_bound, Agenda, Step, scheduled_in, pushes_bound, steps_bound, NeverGoesBack, IsRun, Timer}
 
 scheduled_in-push : (steps : List Step) (step : Step) → scheduled_in (steps ++ step ∷ []) ≡ scheduled_in steps ++ step.scheduled
 scheduled_in-push [] step = append-nil step.scheduled
-scheduled_in-push (first ∷ steps) step = ap (λ (xs : List Event). first.scheduled ++ xs) (scheduled_in-push steps step) ∙ sym (append_assoc first.scheduled (scheduled_in steps) step.scheduled)
+scheduled_in-push (first ∷ steps) step = ap (λ (xs : List Timer). first.scheduled ++ xs) (scheduled_in-push steps step) ∙ sym (append_assoc first.scheduled (scheduled_in steps) step.scheduled)
 
 NeverGoesBack-push : (steps : List Step) (moment later : ℕ) (step : Step) → NeverGoesBack moment steps later → later ≤ step.event.moment → NeverGoesBack moment (steps ++ step ∷ []) step.event.moment
 NeverGoesBack-push [] moment later step same up = (omega (arith, same, up), refl)
@@ -38,20 +38,20 @@ steps_bound-push : (n : ℕ) (steps : List Step) (step : Step) → steps_bound n
 steps_bound-push n [] step = omega arith
 steps_bound-push n (first ∷ steps) step = omega (arith, steps_bound-push (n - 1 + length first.scheduled) steps step)
 
-abbrev events_of : List Step → List Event
+abbrev events_of : List Step → List Timer
 events_of steps = map (λ (step : Step). step.event) steps
 
-module _ {H : Type 0} (handles : H → Event → List Event → H → Type 0) (end : ℕ) (old : Agenda) (first : H) where
+module _ {H : Type 0} (handles : H → Timer → List Timer → H → Type 0) (end : ℕ) (old : Agenda) (first : H) where
   pub IsRun-begun : IsRun handles end old first [] [] old first
   IsRun-begun = record {
     handled = refl;
     forward = refl;
     up_to_end = All-nil _;
-    none_lost = subst (λ (xs : List Event). IsSameBag xs old.waiting) (sym (append-nil old.waiting)) (IsPermutation-refl old.waiting);
+    none_lost = subst (λ (xs : List Timer). IsSameBag xs old.waiting) (sym (append-nil old.waiting)) (IsPermutation-refl old.waiting);
     counted = record { rises = omega arith; within = omega arith };
   }
 
-module _ {H : Type 0} {handles : H → Event → List Event → H → Type 0} {end : ℕ} {old : Agenda} {first : H} {steps : List Step} {mid : Agenda} {last : H} (h : IsRun handles end old first steps [] mid last) (event : Event) (scheduled : List Event) (next : Agenda) (after : H) (forward : mid.moment ≤ event.moment) (present : next.moment ≡ event.moment) (up : event.moment ≤ end) (taken : IsSameBag mid.waiting (event ∷ next.waiting)) (handled : handles last event scheduled after) (many : waits_after (length old.waiting) steps ≡ length mid.waiting) (popped : RisesWithin mid.comparisons next.comparisons (pop_bound 3 (length mid.waiting))) where
+module _ {H : Type 0} {handles : H → Timer → List Timer → H → Type 0} {end : ℕ} {old : Agenda} {first : H} {steps : List Step} {mid : Agenda} {last : H} (h : IsRun handles end old first steps [] mid last) (event : Timer) (scheduled : List Timer) (next : Agenda) (after : H) (forward : mid.moment ≤ event.moment) (present : next.moment ≡ event.moment) (up : event.moment ≤ end) (taken : IsSameBag mid.waiting (event ∷ next.waiting)) (handled : handles last event scheduled after) (many : waits_after (length old.waiting) steps ≡ length mid.waiting) (popped : RisesWithin mid.comparisons next.comparisons (pop_bound 3 (length mid.waiting))) where
   abbrev step : Step
   step = record { event = event; scheduled = scheduled }
 
@@ -66,13 +66,13 @@ module _ {H : Type 0} {handles : H → Event → List Event → H → Type 0} {e
   kept =
       IsPermutation-trans _ _ _
       (IsPermutation-append_left scheduled (old.waiting ++ scheduled_in steps) (events_of steps ++ mid.waiting) h.none_lost)
-      (subst (λ (xs : List Event). IsSameBag xs (events_of steps ++ (event ∷ scheduled ++ next.waiting))) (sym (append_assoc (events_of steps) mid.waiting scheduled)) (IsPermutation-append_right (events_of steps) (mid.waiting ++ scheduled) (event ∷ scheduled ++ next.waiting) moved))
+      (subst (λ (xs : List Timer). IsSameBag xs (events_of steps ++ (event ∷ scheduled ++ next.waiting))) (sym (append_assoc (events_of steps) mid.waiting scheduled)) (IsPermutation-append_right (events_of steps) (mid.waiting ++ scheduled) (event ∷ scheduled ++ next.waiting) moved))
 
   all_scheduled : (old.waiting ++ scheduled_in steps) ++ scheduled ≡ old.waiting ++ scheduled_in more
-  all_scheduled = append_assoc old.waiting (scheduled_in steps) scheduled ∙ ap (λ (xs : List Event). old.waiting ++ xs) (sym (scheduled_in-push steps step))
+  all_scheduled = append_assoc old.waiting (scheduled_in steps) scheduled ∙ ap (λ (xs : List Timer). old.waiting ++ xs) (sym (scheduled_in-push steps step))
 
   all_handled : events_of steps ++ (event ∷ scheduled ++ next.waiting) ≡ events_of more ++ (scheduled ++ next.waiting)
-  all_handled = sym (append_assoc (events_of steps) (event ∷ []) (scheduled ++ next.waiting)) ∙ ap (λ (xs : List Event). xs ++ (scheduled ++ next.waiting)) (sym (map-append (λ (s : Step). s.event) steps (step ∷ [])))
+  all_handled = sym (append_assoc (events_of steps) (event ∷ []) (scheduled ++ next.waiting)) ∙ ap (λ (xs : List Timer). xs ++ (scheduled ++ next.waiting)) (sym (map-append (λ (s : Step). s.event) steps (step ∷ [])))
 
   left : length mid.waiting ≡ length next.waiting + 1
   left = omega (arith, length_permutation mid.waiting (event ∷ next.waiting) taken)
@@ -87,12 +87,12 @@ module _ {H : Type 0} {handles : H → Event → List Event → H → Type 0} {e
     handled = FoldsTo-push (λ (handler : H) (s : Step) (later : H). handles handler s.event s.scheduled later) first steps last step after h.handled handled;
     forward = subst (NeverGoesBack old.moment more) (sym present) (NeverGoesBack-push steps old.moment mid.moment step h.forward forward);
     up_to_end = All-push (λ (s : Step). s.event.moment ≤ end) steps step h.up_to_end up;
-    none_lost = subst (λ (xs : List Event). IsSameBag xs (events_of more ++ (scheduled ++ next.waiting))) all_scheduled (subst (IsSameBag ((old.waiting ++ scheduled_in steps) ++ scheduled)) all_handled kept);
+    none_lost = subst (λ (xs : List Timer). IsSameBag xs (events_of more ++ (scheduled ++ next.waiting))) all_scheduled (subst (IsSameBag ((old.waiting ++ scheduled_in steps) ++ scheduled)) all_handled kept);
     counted = record { rises = omega (arith, h.counted.rises, popped.rises); within = omega (arith, h.counted.within, popped.within, bound) };
   }
 
-  pub IsRun-returned : (back : List Event) (new : Agenda) → back ≡ scheduled → new ≡ next → IsRun handles end old first more back new after
-  IsRun-returned back new same unchanged = subst (λ (xs : List Event). IsRun handles end old first more xs new after) (sym same) (subst (λ (agenda : Agenda). IsRun handles end old first more scheduled agenda after) (sym unchanged) IsRun-refused)
+  pub IsRun-returned : (back : List Timer) (new : Agenda) → back ≡ scheduled → new ≡ next → IsRun handles end old first more back new after
+  IsRun-returned back new same unchanged = subst (λ (xs : List Timer). IsRun handles end old first more xs new after) (sym same) (subst (λ (agenda : Agenda). IsRun handles end old first more scheduled agenda after) (sym unchanged) IsRun-refused)
 
   -- and here it waits from now on
   pub IsRun-more : (new : Agenda) → new.moment ≡ next.moment → IsSameBag (scheduled ++ next.waiting) new.waiting → RisesWithin next.comparisons new.comparisons (pushes_bound (length next.waiting) (length scheduled)) → IsRun handles end old first more [] new after
@@ -114,9 +114,9 @@ module _ {H : Type 0} {handles : H → Event → List Event → H → Type 0} {e
   many_more new waits = omega (arith, waits_after-push (length old.waiting) steps step, many, left, length_permutation (scheduled ++ next.waiting) new.waiting waits, length-append scheduled next.waiting)
 
 -- of a list of events, one more came to a bag
-pub came_more : (events old items new : List Event) (index : ℕ) (event : Event) → take (index + 1) events ≡ take index events ++ event ∷ [] → IsSameBag (take index events ++ old) items → IsSameBag (event ∷ items) new → IsSameBag (take (index + 1) events ++ old) new
+pub came_more : (events old items new : List Timer) (index : ℕ) (event : Timer) → take (index + 1) events ≡ take index events ++ event ∷ [] → IsSameBag (take index events ++ old) items → IsSameBag (event ∷ items) new → IsSameBag (take (index + 1) events ++ old) new
 came_more events old items new index event more before came =
-    subst (λ (xs : List Event). IsSameBag (xs ++ old) new) (sym more)
+    subst (λ (xs : List Timer). IsSameBag (xs ++ old) new) (sym more)
     (IsPermutation-trans _ _ _
     (IsPermutation-append_left old (take index events ++ event ∷ []) (event ∷ take index events) (IsPermutation-to_front (take index events) event))
     (IsPermutation-trans _ _ _ (IsPermutation-cons event (take index events ++ old) items before) came))

@@ -2,8 +2,8 @@
 use Rattle.dary_heap_uses.proofs.Common.{◌≡◌, ℕ, suc, ◌+◌, ◌-◌, ◌≤◌, List, [], ◌∷◌, ◌++◌, length, All, get_or, arith, refl, sym, ap, ◌∙◌, subst, append_assoc, IsNonDecreasingBy, All-push, All-tail, All-weaker, All-contains, All-get_or, IsNonDecreasingBy-push, IsPermutation-trans, IsPermutation-append_right, All-permutation, IsSameBag, pop_bound, pops_bound, IsEarliest, Timer}
 
 -- the pops of n items are one and those of what it leaves
-pub pops_more : {n m : ℕ} → suc m ≡ n → pops_bound 4 n ≡ pop_bound 4 n + pops_bound 4 m
-pops_more {n} {m} one = subst (λ (k : ℕ). pops_bound 4 k ≡ pop_bound 4 k + pops_bound 4 m) one refl
+pub pops_more : (D : ℕ) {n m : ℕ} → suc m ≡ n → pops_bound D n ≡ pop_bound D n + pops_bound D m
+pops_more D {n} {m} one = subst (λ (k : ℕ). pops_bound D k ≡ pop_bound D k + pops_bound D m) one refl
 
 abbrev moment_of : Timer → ℕ
 moment_of timer = timer.moment

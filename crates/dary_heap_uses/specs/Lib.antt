@@ -1,7 +1,5 @@
-pub mod Exchange
 pub mod FromStd
 pub mod Keeping
-pub mod LeastFirst
 pub mod Merging
 pub mod Routes
 pub mod Scheduling

@@ -3,22 +3,22 @@ use Rattle.std.specs.Prelude.{◌≡◌, ℕ, zero, suc, ◌+◌, ◌-◌, ◌�
 use Rattle.std.specs.List.{FoldsTo}
 use Rattle.dary_heap.specs.Bag.{IsSameBag}
 use Rattle.dary_heap.specs.Bounds.{RisesWithin, push_bound, pop_bound}
-use Rattle.dary_heap_uses.specs.declared.simulation.Event.{Event}
+use Rattle.dary_heap_uses.specs.declared.timers.Timer.{Timer}
 
 -- what a caller sees of a simulation: the present moment, the bag of the events that wait, how many there is room for, and how many comparisons were made so far
 pub record Agenda : Type 0 where
   pub moment : ℕ
-  pub waiting : List Event
+  pub waiting : List Timer
   pub room : ℕ
   pub comparisons : ℕ
 
 -- an event that was handled, and those that its handler scheduled
 pub record Step : Type 0 where
-  pub event : Event
-  pub scheduled : List Event
+  pub event : Timer
+  pub scheduled : List Timer
 
 -- all that was scheduled in these steps
-abbrev pub scheduled_in : List Step → List Event
+abbrev pub scheduled_in : List Step → List Timer
 scheduled_in [] = []
 scheduled_in (step ∷ steps) = step.scheduled ++ scheduled_in steps
 
@@ -38,7 +38,7 @@ NeverGoesBack moment [] later = moment ≡ later
 NeverGoesBack moment (step ∷ steps) later = (moment ≤ step.event.moment) × NeverGoesBack step.event.moment steps later
 
 -- these steps led from one agenda to another, with these events refused
-pub record IsRun {H : Type 0} (handles : H → Event → List Event → H → Type 0) (end : ℕ) (old : Agenda) (first : H) (steps : List Step) (refused : List Event) (new : Agenda) (last : H) : Type 0 where
+pub record IsRun {H : Type 0} (handles : H → Timer → List Timer → H → Type 0) (end : ℕ) (old : Agenda) (first : H) (steps : List Step) (refused : List Timer) (new : Agenda) (last : H) : Type 0 where
   -- each event was handed to the handler in turn, which scheduled these
   pub handled : FoldsTo (λ handler step after. handles handler step.event step.scheduled after) first steps last
   pub forward : NeverGoesBack old.moment steps new.moment

@@ -1,12 +1,15 @@
-//! The functions that the README shows without contracts, and others.
+//! The functions that the README shows without contracts, and others, each of which shows a call.
 ghost use Rattle.std.specs.Ordering.{nat_cmp};
-ghost use Rattle.std.specs.Prelude.{◌≡◌, ◌<◌, ◌≤◌, ◌↔◌, ◌∷◌, [], ℕ, All, drop, length, Some, IsSome, IsTrue, IfSome, IfNone, IfOk, IfErr};
+ghost use Rattle.std.specs.Prelude.{◌≡◌, ◌+◌, ◌<◌, ◌≤◌, ◌↔◌, ◌∷◌, [], ℕ, All, length, set, Some, IsSome, IfSome, IfNone, IfOk, IfErr};
 ghost use Rattle.dary_heap.specs.Bag.{IsGreatest, IsSameBag};
+ghost use Rattle.dary_heap.specs.Bounds.{RisesWithin, pop_bound, sink_bound};
 ghost use Rattle.dary_heap.specs.HeapOrder.{IsHeapOrdered};
 ghost use Rattle.dary_heap.specs.State.{front};
 
+use dary_heap::sift::{ByOrd, LeastFirst, fix_with};
 use dary_heap::{BinaryHeap, DaryHeap, TernaryHeap};
 use std::alloc::Global;
+use std::mem;
 
 /// Returns a heap of one number, or the number if memory allocation fails.
 pub fn heap_of(alloc: Global, number: u32) -> Result<TernaryHeap<u32>, u32>
@@ -32,20 +35,36 @@ pub fn take_from(heap: &mut TernaryHeap<u32>, bound: u32) -> Option<u32>
     }
 }
 
-/// Puts a number in the place of the greatest if it is less. So of the heap's numbers and of all that are
-/// offered, the least stay, as many as the heap has.
-pub fn offer(least: &mut BinaryHeap<u32>, number: u32)
-    ensures taken { (most : ℕ) → front least.old.items ≡ Some most → number < most
-        → IsSameBag (number ∷ drop 1 least.old.items) least.new.items }
-    ensures kept { (most : ℕ) → front least.old.items ≡ Some most → most ≤ number
-        → least.new ≡ least.old }
-    ensures len { length least.new.items ≡ length least.old.items }
+/// Pushes an item and pops a greatest one, which may be that item. It takes no memory, so it can't fail.
+///
+/// A lesser item takes the place of the greatest through a loan: one way down, where a push and a pop take
+/// a way up and a way down.
+///
+/// # Examples
+///
+/// ```
+/// use dary_heap::DaryHeap;
+/// use dary_heap_uses::calling::push_pop;
+/// let mut heap = DaryHeap::<_, 3>::from(vec![in alloc; 3, 8, 1]?);
+/// assert_eq!(rt; push_pop(&mut heap, 5), 8);
+/// assert_eq!(rt; push_pop(&mut heap, 9), 9);
+/// assert_eq!(rt; heap.as_slice(), [5, 3, 1].as_slice());
+/// ```
+pub fn push_pop<T: Ord + Drop, const D: usize>(heap: &mut DaryHeap<T, D>, item: T) -> T
+    ensures bag { IsSameBag (item ∷ heap.old.items) (result ∷ heap.new.items) }
+    ensures greatest { IsGreatest T.cmp (item ∷ heap.old.items) result }
+    ensures counted { RisesWithin heap.old.comparisons heap.new.comparisons
+        (sink_bound D (length heap.old.items)) }
+    ensures tight { RisesWithin heap.old.comparisons heap.new.comparisons
+        (pop_bound D (length heap.old.items) + 1) }
+    ensures capacity { heap.new.capacity ≡ heap.old.capacity }
 {
-    if let Some(mut most) = least.peek_mut() {
-        if number < *most {
-            *most = number;
+    if let Some(mut greatest) = heap.peek_mut() {
+        if item < *greatest {
+            return mem::replace(&mut *greatest, item);
         }
     }
+    item
 }
 
 /// Lowers each number above the bound to the bound.
@@ -62,13 +81,6 @@ pub fn lower(heap: &mut BinaryHeap<u32>, bound: u32)
     }
 }
 
-/// Returns whether all numbers are at most the bound.
-pub fn are_at_most<const D: usize>(heap: &DaryHeap<u32, D>, bound: u32) -> bool
-    ensures { IsTrue result ↔ All (λ number. number ≤ bound) heap.now.items }
-{
-    heap.iter().all(|number| *number <= bound)
-}
-
 /// Returns the two greatest numbers, or `None` if there are fewer than two. The heap is empty afterwards.
 pub fn greatest_two<const D: usize>(heap: &mut DaryHeap<u32, D>) -> Option<(u32, u32)>
     ensures two { IsSome result ↔ (2 ≤ length heap.old.items) }
@@ -79,4 +91,34 @@ pub fn greatest_two<const D: usize>(heap: &mut DaryHeap<u32, D>) -> Option<(u32,
     let first = numbers.next()?;
     let second = numbers.next()?;
     Some((first, second))
+}
+
+/// Takes a least number out of a heap whose judge has the order the other way round.
+pub fn pop_least<const D: usize>(heap: &mut DaryHeap<u32, D, LeastFirst<ByOrd>>) -> Option<u32>
+    ensures some { IsSome result ↔ (0 < length heap.old.items) }
+    ensures least { IfSome result (λ number. All (λ other. number ≤ other) heap.new.items) }
+    ensures bag { IfSome result (λ number. IsSameBag heap.old.items (number ∷ heap.new.items)) }
+{
+    heap.pop()
+}
+
+/// Puts another number at a place, below the length, of a slice that is heap ordered at arity 4, and leaves
+/// it so.
+///
+/// # Examples
+///
+/// ```
+/// use dary_heap_uses::calling::change;
+/// let mut items = [9, 5, 7, 1, 2];
+/// change(&mut items, 3, 10);
+/// assert_eq!(rt; items, [10, 5, 7, 9, 2]);
+/// ```
+pub fn change(items: &mut [u64], place: usize, item: u64)
+    requires heap { IsHeapOrdered nat_cmp 4 items.old }
+    requires there { place < length items.old }
+    ensures ordered { IsHeapOrdered nat_cmp 4 items.new }
+    ensures changed { IsSameBag (set items.old place item) items.new }
+{
+    items[place] = item;
+    fix_with::<_, _, 4>(items, place, &mut ByOrd::new());
 }

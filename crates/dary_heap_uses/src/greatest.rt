@@ -1,12 +1,14 @@
-//! The `k` greatest of a stream.
+//! The `k` greatest, of a stream and of a heap.
 //!
-//! A heap of `Reverse` has the least of the items that are kept at its top. A greater item takes its place
-//! through a loan, in one way down; a push and a pop would take a way up and a way down.
-ghost use Rattle.std.specs.Prelude.{◌+◌, ◌*◌, ◌≤◌, [], ◌∷◌, ◌++◌, List, length, IfOk, OnOk};
+//! For a stream a heap of `Reverse` has the least of the items that are kept at its top. A greater item takes
+//! its place by [`push_pop`].
+ghost use Rattle.std.specs.Prelude.{◌≡◌, ◌+◌, ◌*◌, ◌≤◌, [], ◌∷◌, ◌++◌, List, length, min, IfOk, OnOk};
 ghost use Rattle.std.specs.Iterator.{Drains, IsFinite};
 ghost use Rattle.dary_heap.specs.Bounds.{RisesWithin, push_bound, pop_bound};
+ghost use Rattle.dary_heap.specs.Popping.{IsGivenDescending};
 ghost use Rattle.dary_heap_uses.specs.Keeping.{KeepsGreatest, values};
 
+use crate::calling::push_pop;
 use dary_heap::DaryHeap;
 use std::alloc::{AllocError, Global};
 use std::cmp::Reverse;
@@ -47,8 +49,30 @@ pub fn greatest<T: Ord + Drop, I: IntoIterator<Item = T>, const D: usize>(
     Ok(kept)
 }
 
-/// Takes an item in while fewer than `k` are kept, and later in the place of the least, if that is
-/// strictly less.
+/// Returns the `k` greatest items of a heap in descending order, or all if they are fewer. Of equal items
+/// any may be left out. Fails if memory allocation fails, and drops all items then.
+///
+/// # Examples
+///
+/// ```
+/// use dary_heap::DaryHeap;
+/// use dary_heap_uses::greatest::first_few;
+/// let heap = DaryHeap::<_, 3>::from(vec![in alloc; 3, 8, 1, 5]?);
+/// assert_eq!(rt; first_few(alloc, heap, 2)?.as_slice(), [8, 5].as_slice());
+/// ```
+pub fn first_few<T: Ord + Drop, const D: usize>(
+    alloc: Global,
+    heap: DaryHeap<T, D>,
+    k: usize,
+) -> Result<Vec<T>, AllocError>
+    ensures { IfOk result (λ few. (left : List T)
+        × IsGivenDescending T.cmp heap.items few.items left
+        × (length few.items ≡ min k (length heap.items))) }
+{
+    heap.into_iter_sorted().take(k).collect(alloc)
+}
+
+/// Takes an item in. If `k` are kept, a least of them all goes.
 fn offer<T: Ord + Drop, const D: usize>(
     kept: &mut DaryHeap<Reverse<T>, D>,
     k: usize,
@@ -65,10 +89,6 @@ fn offer<T: Ord + Drop, const D: usize>(
     if kept.len() < k {
         return kept.push(Reverse(item)).map_err(|_| AllocError);
     }
-    if let Some(mut least) = kept.peek_mut() {
-        if least.0 < item {
-            *least = Reverse(item);
-        }
-    }
+    push_pop(kept, Reverse(item));
     Ok(())
 }

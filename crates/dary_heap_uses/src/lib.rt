@@ -3,13 +3,9 @@
 #![tactic(auto)]
 
 pub mod calling;
-pub mod exchange;
 pub mod from_std;
 pub mod greatest;
-pub mod least_first;
 pub mod merge;
-pub mod places;
-pub mod ranking;
 pub mod roads;
 pub mod scheduler;
 pub mod simulation;

@@ -1,33 +1,23 @@
 //! An event simulation: events are handled in the order of their moments, and what handles them schedules
-//! further ones. A clause sees a simulation as the `Agenda` of `specs/Simulation.antt`.
-ghost use Rattle.std.specs.Prelude.{◌≡◌, ◌+◌, ◌<◌, ◌≤◌, [], ◌∷◌, ◌++◌, List, All, map, length, IfSome, IfNone, IfOk, IfErr, OnOk, OnErr, IsOk};
+//! further ones. An event is a timer whose name says what happens. A clause sees a simulation as the `Agenda` of `specs/Simulation.antt`.
+ghost use Rattle.std.specs.Prelude.{◌≡◌, ◌+◌, ◌<◌, ◌≤◌, [], ◌∷◌, ◌++◌, List, All, length, IfSome, IfNone, IfOk, IfErr, OnOk, OnErr, IsOk};
 ghost use Rattle.dary_heap.specs.Bag.{IsSameBag};
 ghost use Rattle.dary_heap.specs.Bounds.{RisesWithin, push_bound, pop_bound};
 ghost use Rattle.dary_heap_uses.specs.Simulation.{Agenda, Step, IsRun, pushes_bound};
-ghost use Rattle.dary_heap_uses.specs.declared.simulation.Event.{Event};
+ghost use Rattle.dary_heap_uses.specs.declared.timers.Timer.{Timer};
 
-use dary_heap::TernaryHeap;
+use crate::timers::{Timer, TimerQueue};
 use std::alloc::{AllocError, Global};
-use std::cmp::Reverse;
 use std::marker::Model;
-
-/// An event. The earlier one is the lesser.
-#[derive(Clone, Copy, PartialEq, Eq, PartialOrd, Ord, Debug)]
-pub struct Event {
-    /// The moment at which it happens.
-    pub moment: u64,
-    /// What happens.
-    pub kind: u32,
-}
 
 /// What handles the events of a simulation.
 pub trait Handler {
     /// It handled this event, scheduled these, and was changed so.
-    ghost handles: { Self → Event → List Event → Self → Type 0 };
+    ghost handles: { Self → Timer → List Timer → Self → Type 0 };
 
     /// Handles an event, and returns the further events that it schedules. The present moment is
     /// that of the event, and none of them is before it.
-    fn handle(&mut self, event: Event) -> Vec<Event>
+    fn handle(&mut self, event: Timer) -> Vec<Timer>
         ensures handled { handles self.old event result.items self.new }
         ensures not_before { All (λ next. event.moment ≤ next.moment) result.items };
 }
@@ -37,15 +27,16 @@ pub trait Handler {
 /// # Examples
 ///
 /// ```
-/// use dary_heap_uses::simulation::{Event, Simulation};
+/// use dary_heap_uses::simulation::Simulation;
+/// use dary_heap_uses::timers::Timer;
 /// let mut simulation = Simulation::new(alloc);
-/// simulation.schedule(Event { moment: 3, kind: 1 })?;
+/// simulation.schedule(Timer { moment: 3, name: 1 })?;
 /// assert_eq!(rt; simulation.moment(), 0);
 /// ```
 #[derive(Drop)]
 pub struct Simulation {
     moment: u64,
-    waiting: TernaryHeap<Reverse<Event>>,
+    waiting: TimerQueue<3>,
 }
 
 impl Model for Simulation {
@@ -53,13 +44,13 @@ impl Model for Simulation {
 
     ghost view = { λ simulation. record {
       moment = simulation.moment;
-      waiting = map (λ event. event.0) simulation.waiting.items;
-      room = simulation.waiting.capacity;
+      waiting = simulation.waiting.set;
+      room = simulation.waiting.room;
       comparisons = simulation.waiting.comparisons;
     } };
 
     ghost invariant = { λ simulation. All (λ event. simulation.moment ≤ event.moment)
-        (map (λ event. event.0) simulation.waiting.items) };
+        simulation.waiting.set };
 }
 
 impl Simulation {
@@ -72,7 +63,7 @@ impl Simulation {
     {
         Simulation {
             moment: 0,
-            waiting: TernaryHeap::new(alloc),
+            waiting: TimerQueue::new(alloc),
         }
     }
 
@@ -101,7 +92,7 @@ impl Simulation {
     /// Schedules an event, which must not be before the present moment, with at most as many comparisons
     /// as a push onto the events that wait. Fails with the event if memory allocation fails, which happens
     /// only if all room is in use. Nothing has changed then.
-    pub fn schedule(&mut self, event: Event) -> Result<(), Event>
+    pub fn schedule(&mut self, event: Timer) -> Result<(), Timer>
         requires { self.old.moment ≤ event.moment }
         ensures scheduled { OnOk result (IsSameBag (event ∷ self.old.waiting) self.new.waiting) }
         ensures moment { self.new.moment ≡ self.old.moment }
@@ -114,10 +105,7 @@ impl Simulation {
         ensures returned { IfErr result (λ back. back ≡ event) }
         ensures unchanged { OnErr result (self.new ≡ self.old) }
     {
-        match self.waiting.push(Reverse(event)) {
-            Ok(()) => Ok(()),
-            Err(Reverse(event)) => Err(event),
-        }
+        self.waiting.set(event)
     }
 
     /// Handles the events up to an end in the order of their moments, those too that are scheduled
@@ -132,7 +120,7 @@ impl Simulation {
         handler: &mut H,
         end: u64,
         budget: u64,
-    ) -> Result<u64, Vec<Event>>
+    ) -> Result<u64, Vec<Timer>>
         ensures ran { IfOk result (λ count. (steps : List Step) × (length steps ≡ count)
             × IsRun H.handles end self.old handler.old steps [] self.new handler.new) }
         ensures within { IfOk result (λ count. count ≤ budget) }
@@ -155,7 +143,7 @@ impl Simulation {
     }
 
     /// Takes the earliest event if it is not past the end. Its moment is the present one from then on.
-    fn take_next(&mut self, end: u64) -> Option<Event>
+    fn take_next(&mut self, end: u64) -> Option<Timer>
         ensures forward { IfSome result (λ event. self.old.moment ≤ event.moment) }
         ensures present { IfSome result (λ event. self.new.moment ≡ event.moment) }
         ensures up_to_end { IfSome result (λ event. event.moment ≤ end) }
@@ -167,14 +155,14 @@ impl Simulation {
         ensures none { IfNone result (All (λ event. end < event.moment) self.old.waiting) }
         ensures unchanged { IfNone result (self.new ≡ self.old) }
     {
-        let Reverse(event) = self.waiting.pop_if(|Reverse(event)| event.moment <= end)?;
+        let event = self.waiting.take_next(end)?;
         self.moment = event.moment;
         Some(event)
     }
 
     /// Schedules all these events. If memory allocation for them fails, it returns them and nothing
     /// has changed.
-    fn schedule_all(&mut self, events: Vec<Event>) -> Result<(), Vec<Event>>
+    fn schedule_all(&mut self, events: Vec<Timer>) -> Result<(), Vec<Timer>>
         requires { All (λ event. self.old.moment ≤ event.moment) events.items }
         ensures scheduled { OnOk result
             (IsSameBag (events.items ++ self.old.waiting) self.new.waiting) }
@@ -195,14 +183,13 @@ impl Simulation {
 }
 
 /// Adds all these events, for which there is room.
-fn push_all(waiting: &mut TernaryHeap<Reverse<Event>>, events: &[Event])
-    requires { length waiting.old.items + length events.now ≤ waiting.old.capacity }
-    ensures came { IsSameBag (events.now ++ map (λ event. event.0) waiting.old.items)
-        (map (λ event. event.0) waiting.new.items) }
+fn push_all(waiting: &mut TimerQueue<3>, events: &[Timer])
+    requires { length waiting.old.set + length events.now ≤ waiting.old.room }
+    ensures came { IsSameBag (events.now ++ waiting.old.set) waiting.new.set }
     ensures counted { RisesWithin waiting.old.comparisons waiting.new.comparisons
-        (pushes_bound (length waiting.old.items) (length events.now)) }
+        (pushes_bound (length waiting.old.set) (length events.now)) }
 {
     for event in events {
-        waiting.push(Reverse(*event)).unwrap();
+        waiting.set(*event).unwrap();
     }
 }

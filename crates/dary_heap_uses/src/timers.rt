@@ -5,7 +5,7 @@ ghost use Rattle.dary_heap.specs.Bag.{IsSameBag};
 ghost use Rattle.dary_heap.specs.Bounds.{RisesWithin, push_bound, pop_bound, pops_bound};
 ghost use Rattle.dary_heap_uses.specs.Timers.{Timers, IsEarliest, AddsDue};
 
-use dary_heap::QuaternaryHeap;
+use dary_heap::DaryHeap;
 use std::alloc::{AllocError, Global};
 use std::cmp::Reverse;
 use std::marker::Model;
@@ -19,13 +19,13 @@ pub struct Timer {
     pub name: u32,
 }
 
-/// The timers that are set.
+/// The timers that are set, in a heap of arity `D`.
 ///
 /// # Examples
 ///
 /// ```
 /// use dary_heap_uses::timers::{Timer, TimerQueue};
-/// let mut queue = TimerQueue::new(alloc);
+/// let mut queue = TimerQueue::<4>::new(alloc);
 /// queue.set(Timer { moment: 9, name: 1 })?;
 /// queue.set(Timer { moment: 3, name: 2 })?;
 /// let mut due = Vec::new(alloc);
@@ -34,11 +34,11 @@ pub struct Timer {
 /// assert_eq!(rt; queue.take_next(5), None);
 /// ```
 #[derive(Drop)]
-pub struct TimerQueue {
-    waiting: QuaternaryHeap<Reverse<Timer>>,
+pub struct TimerQueue<const D: usize> {
+    waiting: DaryHeap<Reverse<Timer>, D>,
 }
 
-impl Model for TimerQueue {
+impl<const D: usize> Model for TimerQueue<D> {
     ghost Value = { Timers };
 
     ghost view = { λ queue. record {
@@ -48,15 +48,15 @@ impl Model for TimerQueue {
     } };
 }
 
-impl TimerQueue {
+impl<const D: usize> TimerQueue<D> {
     /// Returns a queue without timers. It allocates no memory.
-    pub fn new(alloc: Global) -> TimerQueue
+    pub fn new(alloc: Global) -> Self
         ensures set { result.set ≡ [] }
         ensures room { result.room ≡ 0 }
         ensures uncounted { result.comparisons ≡ 0 }
     {
         TimerQueue {
-            waiting: QuaternaryHeap::new(alloc),
+            waiting: DaryHeap::new(alloc),
         }
     }
 
@@ -78,7 +78,7 @@ impl TimerQueue {
     pub fn set(&mut self, timer: Timer) -> Result<(), Timer>
         ensures set { OnOk result (IsSameBag (timer ∷ self.old.set) self.new.set) }
         ensures counted { OnOk result (RisesWithin self.old.comparisons self.new.comparisons
-            (push_bound 4 (length self.old.set))) }
+            (push_bound D (length self.old.set))) }
         ensures room { self.old.room ≤ self.new.room }
         ensures kept { length self.old.set < self.old.room → self.new.room ≡ self.old.room }
         ensures succeeds { length self.old.set < self.old.room → IsOk result }
@@ -99,7 +99,7 @@ impl TimerQueue {
         ensures due { IfSome result (λ timer. timer.moment ≤ now) }
         ensures taken { IfSome result (λ timer. IsSameBag self.old.set (timer ∷ self.new.set)) }
         ensures counted { RisesWithin self.old.comparisons self.new.comparisons
-            (pop_bound 4 (length self.old.set)) }
+            (pop_bound D (length self.old.set)) }
         ensures room { self.new.room ≡ self.old.room }
         ensures none_due { IfNone result (All (λ timer. now < timer.moment) self.old.set) }
         ensures unchanged { IfNone result (self.new ≡ self.old) }
@@ -117,7 +117,7 @@ impl TimerQueue {
         ensures taken { OnOk result
             (AddsDue now self.old.set self.new.set due.old.items due.new.items) }
         ensures counted { RisesWithin self.old.comparisons self.new.comparisons
-            (pops_bound 4 (length self.old.set) - pops_bound 4 (length self.new.set)) }
+            (pops_bound D (length self.old.set) - pops_bound D (length self.new.set)) }
         ensures room { self.new.room ≡ self.old.room }
         ensures succeeds { vec_len due.old + length self.old.set ≤ vec_capacity due.old
             → IsOk result }

@@ -8,7 +8,7 @@ use denote.Ref.{Bor}
 use Rattle.dary_heap.specs.Contents.{Contents}
 use Rattle.dary_heap.specs.Run.{Runs}
 use Rattle.dheap.specs.Answers as answers_of
-use Rattle.dheap.specs.declared.serve.line.Line.TheVariants as line
+use Rattle.dheap.specs.declared.serve.script.line.Line.TheVariants as line
 
 module _ {P : Type 0} (calls : P → ℤ → Bool → P → Type 0) (means : ℤ → P → Type 0)
     (law : (n : ℤ) (p : P) (x : ℤ) (a : Bool) (q : P) → means n p → calls p x a q → (a ≡ int_le n x) × means n q) where

@@ -1,9 +1,9 @@
 -- What the proofs of this crate import from elsewhere: names of std, of the logic and of `specs`.
 pub use borrow.Author.Tests.{tests}
-pub use Rattle.std.proofs.Common.{All, Bool, Err, FitsSigned, IfErr, IfSome, List, None, Ok, OnOk, Option, Result, Some, [], ap, append-nil, append_assoc, arith, codes, cond, drop, false, flat_map, get_or, inl, inr, int_le, is_some, length, length-set, lit<, map, neg_ℤ, not, of_calls, option_to_list, pos, refl, rules, set, subst, subst₂, suc, sym, take, true, zero, ℕ, ℤ, ◌%◌, ◌&&◌, ◌*◌, ◌++◌, ◌+◌, ◌-ℤ◌, ◌-◌, ◌/◌, ◌<◌, ◌==◌, ◌^◌, ◌||◌, ◌∙◌, ◌∷◌, ◌≡◌, ◌≤◌}
+pub use Rattle.std.proofs.Common.{All, Bool, Err, FitsSigned, IfSome, List, None, Ok, OnOk, Option, Result, Some, [], ap, append-nil, append_assoc, arith, codes, cond, drop, false, flat_map, get_or, inl, inr, int_le, is_some, length, lit<, map, neg_ℤ, not, of_calls, option_to_list, pos, refl, rules, set, subst, subst₂, suc, sym, take, true, zero, ℕ, ℤ, ◌%◌, ◌++◌, ◌+◌, ◌-ℤ◌, ◌-◌, ◌/◌, ◌<◌, ◌==◌, ◌^◌, ◌||◌, ◌∙◌, ◌∷◌, ◌≡◌, ◌≤◌}
 pub use Rattle.std.proofs.Math.Bool.{true≢false}
 pub use Rattle.std.proofs.lemmas.Bool.{eqb-true, ne_eqb}
-pub use Rattle.std.proofs.lemmas.Bool.Decides.{Decides-and, Decides-below_and, Decides-eqb}
+pub use Rattle.std.proofs.lemmas.Bool.Decides.{Decides-eqb}
 pub use Rattle.std.proofs.lemmas.Int.{to_z-of_z}
 pub use Rattle.std.proofs.lemmas.Iterator.{IsFirst-from_position, YieldsList-from_slice}
 pub use Rattle.std.proofs.lemmas.List.{flat_map_more, length-append, map-append, take-append-drop, take_all, take_more, take_rest}
@@ -19,6 +19,5 @@ pub use Rattle.dary_heap.specs.Machine.{Ask, Asked, Command, Done, DrainSorted, 
 pub use Rattle.dheap.specs.Answers.{answer, answered, line, listing, text}
 pub use Rattle.dheap.specs.Program.{AsksAtLeast, MayPrint}
 pub use Rattle.dheap.specs.Script.{CarryOut, CarryOutLine, IsFirstBad, IsFirstLine, Say, is_blank, lines_left, lines_of, words_of}
-pub use Rattle.dheap.specs.declared.serve.TheConstants.{PAIRS}
 pub use Rattle.dheap.specs.declared.serve.fault.Fault.{Fault}
-pub use Rattle.dheap.specs.declared.serve.line.Line.{Line}
+pub use Rattle.dheap.specs.declared.serve.script.line.Line.{Line}

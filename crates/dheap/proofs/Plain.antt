@@ -5,7 +5,7 @@ use Rattle.std.proofs.lemmas.Str.{IsUtf8-from_ascii}
 use Rattle.std.proofs.lemmas.Str.Ascii.{IsAscii-from_all}
 use Rattle.std.specs.Str.{IsUtf8}
 use Rattle.dheap.specs.Words.{IsCount, IsNumber}
-use Rattle.dheap.specs.declared.serve.line.Line.TheVariants.{Push, Pop, Len, Test}
+use Rattle.dheap.specs.declared.serve.script.line.Line.TheVariants.{Push, Pop, Len, Test}
 use Rattle.dheap.proofs.Parting.{word_kept}
 
 -- what holds of signs and digits holds of each byte of a number and of a count

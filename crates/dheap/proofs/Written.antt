@@ -24,28 +24,28 @@ module _ {D : ℕ} (replies : List (Reply ℤ D)) (i : ℕ) (reply : Reply ℤ D
   pub text-next : text (read.replies (take (i + 1) replies)) ≡ text (read.replies (take i replies)) ++ line (answer (read.reply reply))
   text-next = ap text read-next ∙ flat_map-append (λ r. line (answer r)) (read.replies (take i replies)) (read.reply reply ∷ []) ∙ ap (λ l. text (read.replies (take i replies)) ++ l) (append-nil _)
 
-pub held-more : (a b : Option (List ℕ)) (held more told says : List ℕ) → Appends a (append_known b held) told → more ≡ held ++ says → Appends a (append_known b more) (told ++ says)
-held-more None b held more told says p e = tt
-held-more (Some x) None held more told says p e = absurd p
-held-more (Some x) (Some y) held more told says p e = ap (λ l. y ++ l) e ∙ sym (append_assoc y held says) ∙ ap (λ l. l ++ says) p ∙ append_assoc x told says
+pub buffered : (a b : Option (List ℕ)) (buffer more told says : List ℕ) → Appends a (append_known b buffer) told → more ≡ buffer ++ says → Appends a (append_known b more) (told ++ says)
+buffered None b buffer more told says p e = tt
+buffered (Some x) None buffer more told says p e = absurd p
+buffered (Some x) (Some y) buffer more told says p e = ap (λ l. y ++ l) e ∙ sym (append_assoc y buffer says) ∙ ap (λ l. l ++ says) p ∙ append_assoc x told says
 
-pub passed-on : (a b c : Option (List ℕ)) (held left told : List ℕ) → Appends a (append_known b held) told → Appends b c held → left ≡ [] → Appends a (append_known c left) told
-passed-on None b c held left told p q e = tt
-passed-on (Some x) None c held left told p q e = absurd p
-passed-on (Some x) (Some y) None held left told p q e = absurd q
-passed-on (Some x) (Some y) (Some z) held left told p q e = ap (λ l. z ++ l) e ∙ append-nil z ∙ q ∙ p
+pub buffer_flushed : (a b c : Option (List ℕ)) (buffer left told : List ℕ) → Appends a (append_known b buffer) told → Appends b c buffer → left ≡ [] → Appends a (append_known c left) told
+buffer_flushed None b c buffer left told p q e = tt
+buffer_flushed (Some x) None c buffer left told p q e = absurd p
+buffer_flushed (Some x) (Some y) None buffer left told p q e = absurd q
+buffer_flushed (Some x) (Some y) (Some z) buffer left told p q e = ap (λ l. z ++ l) e ∙ append-nil z ∙ q ∙ p
 
 pub line-none : (says : Option (List ℕ)) → is_some says ≡ false → line says ≡ []
 line-none None none = refl
 line-none (Some says) none = absurd (true≢false none)
 
--- what was held back is passed on, and the output is flushed
-pub flushed : (a b c d : Option (List ℕ)) (held passed : List ℕ) (before all : List (machine.Reply ℤ)) → Appends a (append_known b held) (text before) → passed ≡ held → Appends b c passed → Keeps c d → before ≡ answered all → Appends a d (text (answered all))
-flushed None b c d held passed before all p e q k is = tt
-flushed (Some x) None c d held passed before all p e q k is = absurd p
-flushed (Some x) (Some y) None d held passed before all p e q k is = absurd q
-flushed (Some x) (Some y) (Some z) None held passed before all p e q k is = absurd k
-flushed (Some x) (Some y) (Some z) (Some w) held passed before all p e q k is = k ∙ q ∙ ap (λ l. y ++ l) e ∙ p ∙ ap (λ rs. x ++ text rs) is
+-- the buffer is written out, and the output is flushed
+pub all_flushed : (a b c d : Option (List ℕ)) (buffer passed : List ℕ) (before all : List (machine.Reply ℤ)) → Appends a (append_known b buffer) (text before) → passed ≡ buffer → Appends b c passed → Keeps c d → before ≡ answered all → Appends a d (text (answered all))
+all_flushed None b c d buffer passed before all p e q k is = tt
+all_flushed (Some x) None c d buffer passed before all p e q k is = absurd p
+all_flushed (Some x) (Some y) None d buffer passed before all p e q k is = absurd q
+all_flushed (Some x) (Some y) (Some z) None buffer passed before all p e q k is = absurd k
+all_flushed (Some x) (Some y) (Some z) (Some w) buffer passed before all p e q k is = k ∙ q ∙ ap (λ l. y ++ l) e ∙ p ∙ ap (λ rs. x ++ text rs) is
 
 All-after : (rs ss : List (machine.Reply ℤ)) → All IsAnswered (rs ++ ss) → All IsAnswered ss
 All-after [] ss h = h

@@ -7,7 +7,7 @@ use Rattle.dheap.specs.Answers.{answer, text}
 use Rattle.dheap.specs.Faults.{TellsFirstBad, status_of}
 use Rattle.dheap.specs.Script.{Say, CarryOut, lines_of}
 use Rattle.dheap.specs.declared.serve.fault.Fault.{Fault}
-use Rattle.dheap.specs.declared.serve.line.Line.{Line}
+use Rattle.dheap.specs.declared.serve.script.line.Line.{Line}
 
 -- called on x, the bound n returns whether x is at least n, and stays as it is
 abbrev pub AsksAtLeast : ℤ → ℤ → Bool → ℤ → Type 0

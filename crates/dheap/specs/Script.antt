@@ -6,8 +6,8 @@ use denote.Ref.{Bor}
 use Rattle.dary_heap.specs.Machine.{Command}
 use Rattle.dary_heap.specs.Machine as machine
 use Rattle.dheap.specs.Words.{IsNumber, IsCount}
-use Rattle.dheap.specs.declared.serve.line.Line.{Line}
-use Rattle.dheap.specs.declared.serve.line.Line.TheVariants.{Blank, Push, Pop, Len, Test, PopIf, Keep, Sorted}
+use Rattle.dheap.specs.declared.serve.script.line.Line.{Line}
+use Rattle.dheap.specs.declared.serve.script.line.Line.TheVariants.{Blank, Push, Pop, Len, Test, PopIf, Keep, Sorted}
 
 -- the lines, separated by line feeds
 abbrev pub lines_of : List ℕ → List (List ℕ)

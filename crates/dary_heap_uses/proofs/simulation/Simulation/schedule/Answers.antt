@@ -1,15 +1,10 @@
-use Rattle.dary_heap_uses.proofs.Common.{arith, ◌≤◌, All, ap, map, subst, sym, Reverse, Contents, reversed_all_came, reversed_came, Agenda, Event}
+use Rattle.dary_heap_uses.proofs.Common.{arith, ◌≡◌, ◌≤◌, ◌∷◌, All, All-cons, All-permutation, Result, Ok, Err, OnOk, OnErr, ap, subst, sym, IsSameBag, Agenda, Timer, Timers}
 use Rattle.dary_heap_uses.proofs.simulation.Simulation.schedule.Goals as goal
-use Rattle.dary_heap_uses.proofs.simulation.Simulation.schedule.Goals.{in-Ok, in-Err}
+
+-- what holds of all timers and of one more holds of all that are set then
+set_all : {A E : Type 0} (P : Timer → Type 0) (old new : Timers) (timer : Timer) (r : Result A E) → All P old.set → P timer → OnOk r (IsSameBag (timer ∷ old.set) new.set) → OnErr r (new ≡ old) → All P new.set
+set_all P old new timer (Ok x) all here bag same = All-permutation P (timer ∷ old.set) new.set bag (All-cons P timer old.set here all)
+set_all P old new timer (Err e) all here bag same = subst (λ (timers : Timers). All P timers.set) (sym same) all
 
 pub invariant_of-self : goal.invariant_of-self
-invariant_of-self c = elim c.match-push.branch [
-  | in-Ok w ↦ reversed_all_came (λ (e : Event). c.self.inside.moment ≤ e.moment) c.self.inside.waiting.items _ _ c.self.invariant (omega (arith, c.requires, ap (λ (a : Agenda). a.moment) c.self.view_is)) w.in-Ok.ensures.bag
-  | in-Err w ↦ subst (λ (heap : Contents (Reverse Event)). All (λ (e : Event). c.self.inside.moment ≤ e.moment) (map (λ (r : Reverse Event). r.0) heap.items)) (sym w.in-Err.ensures.unchanged) c.self.invariant
-]
-
-pub returns-clause-scheduled : goal.returns-clause-scheduled
-returns-clause-scheduled c = elim c.match-push.branch [
-  | in-Ok w ↦ rw w.result-is (reversed_came _ _ _ _ (ap (λ (a : Agenda). a.waiting) c.self.view_is) w.in-Ok.ensures.bag)
-  | in-Err w ↦ rw w.result-is tt
-]
+invariant_of-self c = set_all (λ (e : Timer). c.self.inside.moment ≤ e.moment) c.self.inside.waiting c.set.new.self c.args.event c.set.result c.self.invariant (omega (arith, c.requires, ap (λ (a : Agenda). a.moment) c.self.view_is)) c.set.ensures.set c.set.ensures.unchanged

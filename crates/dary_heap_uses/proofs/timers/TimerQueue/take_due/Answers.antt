@@ -3,10 +3,10 @@ use Rattle.dary_heap_uses.proofs.Taking.{IsTaking-more, pops_more}
 use Rattle.dary_heap_uses.proofs.timers.TimerQueue.take_due.Goals as goal
 
 pub loop-timer-smaller : goal.loop-timer-smaller
-loop-timer-smaller c = omega (arith, length_permutation _ _ c.in-Some.ensures.taken)
+loop-timer-smaller g c = omega (arith, length_permutation _ _ c.in-Some.ensures.taken)
 
 pub loop-timer-preserved : goal.loop-timer-preserved
-loop-timer-preserved c =
+loop-timer-preserved g c =
     let before = c.loop-timer.invariant in
     let found = c.in-Some.ensures in
     record {
@@ -14,10 +14,10 @@ loop-timer-preserved c =
       room = omega (arith, length_permutation _ _ found.taken, c.push_reserved.ensures.len, c.push_reserved.ensures.capacity, before.room);
       kept = found.room ∙ before.kept;
       rises = omega (arith, before.rises, found.counted.rises);
-      within = omega (arith, before.within, found.counted.within, pops_more (length_permutation _ _ found.taken));
+      within = omega (arith, before.within, found.counted.within, pops_more g.row.D (length_permutation _ _ found.taken));
     }
 
 pub returns-clause-counted : goal.returns-clause-counted
-returns-clause-counted c =
+returns-clause-counted g c =
     let ended = c.loop-timer.invariant in
     rw (c.in_default.ensures.unchanged) record { rises = ended.rises; within = omega (arith, ended.within) }

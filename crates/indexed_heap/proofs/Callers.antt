@@ -1,0 +1,18 @@
+-- What callers need besides the contracts.
+use Rattle.dary_heap.proofs.Common.{◌≢◌, ℕ, List, ◌∷◌, Some, ap, ◌∙◌, slice_get-get_or, get_or_from_slice_get, slice_get_within, Contains, Contains-permutation, IsPermutation, IsPermutation-sym}
+use Rattle.dary_heap.proofs.Bags.{Contains-later}
+use Rattle.indexed_heap.specs.Entries.{IsAbsent}
+pub use Rattle.indexed_heap.proofs.Reading.{none_there, one_item, item_of-absent, item_of-there, item_of-none, item_of-has, item_of-agrees, Gets-here, Gets-others, Gets-given, Loses-given, Loses-others, pop_loses}
+pub use Rattle.indexed_heap.proofs.Removing.{still_absent}
+
+-- no entry that is there has a key that is absent
+pub absent_apart : {X : Type 0} (key : ℕ) (entries : List (ℕ × X)) (entry : ℕ × X) → IsAbsent key entries → Contains entries entry → entry.0 ≢ key
+absent_apart key entries entry h in' = h.none in'.0 entry (slice_get-get_or entries in'.0 entry in'.1 ∙ ap Some in'.2)
+
+-- what was absent stays so if an entry is taken out
+pub absent_left : {X : Type 0} (key : ℕ) (old new : List (ℕ × X)) (entry : ℕ × X) → IsPermutation old (entry ∷ new) → IsAbsent key old → IsAbsent key new
+absent_left key old new entry bag h = record {
+  none = λ i slot there.
+      let in' : Contains new slot = (i, slice_get_within new i slot there, get_or_from_slice_get new i slot slot there) in
+      absent_apart key old slot h (Contains-permutation (entry ∷ new) old slot (IsPermutation-sym old (entry ∷ new) bag) (Contains-later entry new slot in'));
+}

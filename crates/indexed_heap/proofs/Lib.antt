@@ -1,0 +1,11 @@
+pub mod Placing
+pub mod Falling
+pub mod Changing
+pub mod Removing
+pub mod Bounding
+pub mod Sound
+pub mod Raising
+pub mod Callers
+pub mod Reading
+pub mod Iterating
+pub mod Copying

@@ -1,0 +1,14 @@
+use Rattle.indexed_heap.proofs.Sound.{sound}
+use Rattle.indexed_heap.proofs.heap.IndexedHeap.insert.Goals as goal
+
+pub returns-clause-sound : goal.returns-clause-sound
+returns-clause-sound g c = sound g.row.D c.set.new.slots.items c.set.new.places.items (c.set.ensures.ordered c.self.invariant.0) c.set.ensures.right
+
+pub returns-clause-present : goal.returns-clause-present
+returns-clause-present g c = rw (← c.self.view_is) c.set.ensures.present
+
+pub returns-clause-counted : goal.returns-clause-counted
+returns-clause-counted g c = rw (← c.self.view_is) c.set.ensures.counted
+
+pub returns-clause-roomy : goal.returns-clause-roomy
+returns-clause-roomy g c = rw (← c.self.view_is) c.set.ensures.roomy

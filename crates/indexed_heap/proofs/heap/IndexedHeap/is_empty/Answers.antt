@@ -1,0 +1,5 @@
+use Rattle.indexed_heap.proofs.Sound.{sound}
+use Rattle.indexed_heap.proofs.heap.IndexedHeap.is_empty.Goals as goal
+
+pub returns-clause-sound : goal.returns-clause-sound
+returns-clause-sound g c = rw (← c.self.view_is) (sound g.row.D c.self.inside.slots.items c.self.inside.places.items c.self.invariant.0 c.self.invariant.1)

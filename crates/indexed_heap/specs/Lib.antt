@@ -1,0 +1,4 @@
+pub mod Entries
+pub mod Iterating
+pub mod Making
+pub mod Places

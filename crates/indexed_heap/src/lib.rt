@@ -1,0 +1,50 @@
+//! A priority queue whose items have keys, by which they are read, changed and removed wherever they stand.
+//!
+//! It serves timers that are cancelled, jobs whose priority changes, and searches that find a cheaper way to a node
+//! that waits already. [`IndexedHeap::pop`] returns a greatest item with its key. [`IndexedHeap::insert`],
+//! [`raise`](IndexedHeap::raise) and [`remove`](IndexedHeap::remove) act on one key, and cost about as much as a push
+//! or a pop. What takes memory takes an allocator or keeps the one that it was made with, and returns a `Result`.
+//!
+//! ```
+//! use dary_heap::sift::{ByOrd, LeastFirst};
+//! use indexed_heap::IndexedHeap;
+//! let mut timers = IndexedHeap::<_, 4, _>::with_judge(alloc, LeastFirst(ByOrd::new()));
+//! timers.insert(3, 500)?;
+//! timers.insert(7, 200)?;
+//! timers.insert(5, 300)?;
+//! assert_eq!(rt; timers.remove(7), Some(200));
+//! assert_eq!(rt; timers.insert(5, 900), Ok(Some(300)));
+//! assert_eq!(rt; timers.pop(), Some((3, 500)));
+//! ```
+//!
+//! Each example of these pages is run as a test: `rt` is the test's `HostRuntime`, `alloc` is `rt.alloc()`, and `?`
+//! takes any error.
+//!
+//! # Costs
+//!
+//! The greatest number of comparisons, for `n` entries at an arity `D` of 2 or more. The contracts have the exact
+//! bounds, at every arity, and they are proved.
+//!
+//! | method | comparisons, at most |
+//! |---|---|
+//! | [`insert`](IndexedHeap::insert) of a key without an item | the depth of the new place: *O*(log *n*) |
+//! | [`insert`](IndexedHeap::insert) of a key with an item | the depth of its place, and `D` for each step from there down to the last place |
+//! | [`raise`](IndexedHeap::raise) | one more than the depth of a new place |
+//! | [`pop`](IndexedHeap::pop), [`pop_if`](IndexedHeap::pop_if), [`remove`](IndexedHeap::remove) | `D` times the depth of the last place: *O*(log *n*) |
+//! | an item of [`into_iter_sorted`](IndexedHeap::into_iter_sorted) | as `pop` |
+//! | [`get`](IndexedHeap::get), [`peek`](IndexedHeap::peek), [`iter`](IndexedHeap::iter), [`clone`](IndexedHeap::clone), [`reserve`](IndexedHeap::reserve) and the heap's other methods | none |
+//!
+//! # Modules
+//!
+//! [`heap`] has the heap, and [`iter`] its iterators. They stand on a table of places, in which each move of an entry
+//! is written down, and that on the crate `dary_heap`, whose judges compare the items.
+#![tactic(auto)]
+
+pub mod heap;
+pub mod iter;
+mod judge;
+mod moves;
+mod table;
+
+pub use heap::IndexedHeap;
+pub use iter::{IntoIterSorted, Iter};
