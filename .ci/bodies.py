@@ -6,7 +6,7 @@ from dataclasses import dataclass, field
 TOP = pathlib.Path(__file__).resolve().parent.parent
 # `rt ci` tries the edits of the first, of which it reads the lines `file:`, `old:` and `new:` alone.
 FOLDERS = ("must-fail", "wrong_bodies")
-NEEDED, OTHERS = ("turns", "body", "breaks", "case"), ("callers", "without", "shown")
+NEEDED, OTHERS = ("function", "body", "breaks", "case"), ("callers", "without", "shown")
 START, END = "<!-- `.ci/wrong_bodies --table` makes this table. -->\n", "<!-- Here the table ends. -->\n"
 
 
@@ -32,8 +32,8 @@ class Body:
         return self.edited(TOP / "crates" / self.crate)[1]
 
     def functions(self):
-        """Returns the function that it turns, and the callers that may have to refuse it."""
-        return [it.strip() for it in [self.says["turns"], *self.says.get("callers", "").split(",")] if it.strip()]
+        """Returns the function whose body it is, and the callers that may have to refuse it."""
+        return [it.strip() for it in [self.says["function"], *self.says.get("callers", "").split(",")] if it.strip()]
 
     def breaks(self):
         """Returns the clauses that it breaks, each with the names of the functions of which one has to refuse it."""
@@ -68,23 +68,29 @@ def last(function):
 
 
 def read(path):
-    body, pair = Body(path.parts[-3], path.parts[-2], path.stem), {"file": "", "old": ""}
+    """Returns the bodies of a file. Each begins with a line `name:`, and if the file has no such line it has one body, with the
+    file's name. A file of several is named as the source that they edit."""
+    crate, folder, *below = path.relative_to(TOP / "crates").with_suffix("").parts
+    bodies, pair = [], {}
     for line in path.read_text(encoding="utf-8").splitlines():
         word, _, text = line.partition(":")
         text = text.removeprefix(" ")
+        if word == "name" or not bodies:
+            bodies.append(Body(crate, folder, text.strip() if word == "name" else path.stem))
+            pair = {"file": f"src/{'/'.join(below)}.rt" if word == "name" else "", "old": ""}
         if word in pair:
             pair[word] = text
         elif word == "new":
-            body.pairs.append((pair["file"].strip(), pair["old"], text))
+            bodies[-1].pairs.append((pair["file"].strip(), pair["old"], text))
             pair["old"] = ""
-        else:
-            body.says[word] = text.strip()
-    return body
+        elif word and word != "name":
+            bodies[-1].says[word] = text.strip()
+    return bodies
 
 
 def read_all():
     """Returns the wrong bodies of both folders, those of one source beside one another."""
-    bodies = [read(it) for folder in FOLDERS for it in TOP.glob(f"crates/*/{folder}/*.edit")]
+    bodies = [body for folder in FOLDERS for it in TOP.glob(f"crates/*/{folder}/**/*.edit") for body in read(it)]
     return sorted(bodies, key=lambda it: (it.crate, it.source(), it.name))
 
 

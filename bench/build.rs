@@ -1,8 +1,9 @@
 //! Links the static library `dary_heap_bench`, which `rt lib` leaves in `out/` of its crate, and the
 //! toolchain's C part, through which it takes memory. `DARY_HEAP_BENCH` and `RATTLE_C` name the folders
-//! where the two lie.
+//! where the two lie. The program `keyed` gets the library `indexed_heap_bench` too, for which `INDEXED_HEAP_BENCH`
+//! names another folder.
 //!
-//! `src/rivals.cpp` is compiled if there is a C++ compiler: `c++`, or the one that `CXX` names. `CXXSTDLIB` names its
+//! The files of C++ are compiled if there is a compiler: `c++`, or the one that `CXX` names. `CXXSTDLIB` names its
 //! library if that isn't the usual one. `SHIFT` moves the program's code, as README.md says.
 
 use std::env;
@@ -13,11 +14,24 @@ fn main() {
     let Some(toolchain) = said("RATTLE_C") else {
         fail("RATTLE_C has to name the folder with the toolchain's C part, see README.md");
     };
-    let beside = concat!(env!("CARGO_MANIFEST_DIR"), "/../crates/dary_heap_bench/out");
-    let library = said("DARY_HEAP_BENCH").unwrap_or_else(|| String::from(beside));
+    let beside = concat!(env!("CARGO_MANIFEST_DIR"), "/../crates");
+    let library =
+        said("DARY_HEAP_BENCH").unwrap_or_else(|| format!("{beside}/dary_heap_bench/out"));
     link(&library, "dary_heap_bench");
     link(&toolchain, "libc_c");
-    compile("src/rivals.cpp");
+    println!("cargo:rustc-check-cfg=cfg(has_cpp)");
+    let cpp = compile("src/rivals.cpp", "rivals.o");
+    pass("", &cpp);
+    // The program `keyed` alone gets these. If there is no such library, the linker says so.
+    let keyed =
+        said("INDEXED_HEAP_BENCH").unwrap_or_else(|| format!("{beside}/indexed_heap_bench/out"));
+    let keyed = format!("{keyed}/libindexed_heap_bench.a");
+    println!("cargo:rerun-if-changed={keyed}");
+    pass("-bin=keyed", &[keyed, format!("{toolchain}/liblibc_c.a")]);
+    pass(
+        "-bin=keyed",
+        &compile("src/bin/keyed/rivals.cpp", "keyed.o"),
+    );
     println!("cargo:rustc-check-cfg=cfg(is_shifted)");
     if said("SHIFT").is_some() {
         println!("cargo:rustc-cfg=is_shifted");
@@ -41,31 +55,36 @@ fn link(folder: &str, name: &str) {
     println!("cargo:rustc-link-lib=static={name}");
 }
 
-/// Compiles a file of C++ and links it, if there is a compiler.
-fn compile(file: &str) {
+/// Compiles a file of C++, if there is a compiler. Returns what the linker is given.
+fn compile(file: &str, object: &str) -> Vec<String> {
     println!("cargo:rerun-if-changed={file}");
-    println!("cargo:rustc-check-cfg=cfg(has_cpp)");
     // Where the compiler looks for headers.
     println!("cargo:rerun-if-env-changed=CPATH");
     println!("cargo:rerun-if-env-changed=CPLUS_INCLUDE_PATH");
     let compiler = said("CXX").unwrap_or_else(|| String::from("c++"));
-    let object = env::var("OUT_DIR").unwrap_or_default() + "/rivals.o";
+    let object = format!("{}/{object}", env::var("OUT_DIR").unwrap_or_default());
     let options = ["-std=c++17", "-O3", "-fPIC", "-Wall", "-Wextra", "-c", file];
     let mut command = Command::new(&compiler);
     // Fails if there is no such program.
     let Ok(status) = command.args(options).args(["-o", &object]).status() else {
-        return;
+        return Vec::new();
     };
     if !status.success() {
         fail(&format!("{compiler} fails on {file}"));
     }
     println!("cargo:rustc-cfg=has_cpp");
-    println!("cargo:rustc-link-arg={object}");
-    // Behind the object, which uses it.
     let is_of_apple = env::var("CARGO_CFG_TARGET_VENDOR").is_ok_and(|vendor| vendor == "apple");
     let usual = if is_of_apple { "c++" } else { "stdc++" };
     let library = said("CXXSTDLIB").unwrap_or_else(|| String::from(usual));
-    println!("cargo:rustc-link-arg=-l{library}");
+    // The library stands behind the object, which uses it.
+    vec![object, format!("-l{library}")]
+}
+
+/// Has the linker of each program get these, or that of the program which `to` names.
+fn pass(to: &str, arguments: &[String]) {
+    for argument in arguments {
+        println!("cargo:rustc-link-arg{to}={argument}");
+    }
 }
 
 fn fail(why: &str) -> ! {

@@ -12,8 +12,9 @@
  *
  *   dheap_max_push_i64
  *         |   |    |
- *         |   |    the items: i64 (int64_t), u64 (uint64_t), double, entry (struct dheap_entry) or
- *         |   |    sequenced (struct dheap_sequenced)
+ *         |   |    the items: i64 (int64_t), u64 (uint64_t), double, entry (struct dheap_entry),
+ *         |   |    sequenced (struct dheap_sequenced), or keyed (entries whose places are kept, to push,
+ *         |   |    pop, fix and remove)
  *         |   make, push, pop, replace, fix, remove, mend, sort_heap, sort or is_heap
  *         max-heap or min-heap
  *
@@ -27,17 +28,17 @@
  *
  * Each function returns true if it did what it says. It returns false, and nothing is changed, if the arity
  * isn't 1 to DARY_HEAP_ARITY_MAX, or a place or a start is out of the range that is said with the function. A
- * compiler that can warns if you ignore the result.
+ * compiler that can warn does so if you ignore the result.
  *
  * What you have to uphold
  *
  * - `items` points to `len` items, aligned as C aligns them, and isn't null, even if `len` is 0. For all
  *   functions but `is_heap` they are writable.
- * - Nobody else writes these items during the call, and where the function may write, nobody reads them.
+ * - Nobody else writes these items during the call, or reads them if the function may write.
  *   Calls on different arrays may run at the same time.
  *
  * Nothing else is a precondition. If the items aren't a heap where a function says that they are, it moves
- * them all the same, loses none and doubles none, and what it says of heap order afterwards doesn't hold.
+ * them all the same, loses none and doubles none, and what it says of heap order afterwards may not hold.
  *
  * Costs
  *
@@ -80,7 +81,7 @@ extern "C" {
 /* An item that is compared by its key alone. Of equal keys any may come first. */
 struct dheap_entry {
     int64_t key;
-    uint64_t value; /* what you want to know of it: a number, an index, an address. It is never read */
+    uint64_t value; /* any number of yours, such as an index or an address. Only the `keyed` functions look at it */
 };
 
 /* An item that is compared by its key, and then by its sequence number: of equal keys the lesser number comes
@@ -175,8 +176,39 @@ DARY_HEAP_FUNCTION(sort, *items, size_t len, size_t arity);
  * Cost: len - 1. None if len is 0. */
 DARY_HEAP_FUNCTION(is_heap, const *items, size_t len, size_t arity, bool *answer);
 
+/* Entries whose places are kept
+ *
+ * The functions that end in `keyed` do what those do that end in `entry`, at the same costs, and also write where
+ * each item is: afterwards places[value] is the place of the item with that value. So an item is found by its
+ * value without a look at the others, to be changed or removed.
+ *
+ * `places` points to `count` numbers, as `items` does to `len` items, and the two arrays have no byte in common.
+ * What is said of places holds if
+ *
+ * - no two items have the same value, and each value is below `count`, and
+ * - places[value] is the place of the item with that value, for each item but the one that is pushed, popped, fixed
+ *   or removed. So the item at the place of a fix may have been overwritten by one with another value.
+ *
+ * Then it is the place of each of the `len` items afterwards, also of the one that a pop or a remove puts behind the
+ * others. The place of a value that no item has may be any number, and stays as it is. So there is an item with a
+ * value v below `count` exactly if places[v] < len and items[places[v]].value == v.
+ *
+ * If these two don't hold, places may be wrong afterwards. What is said of the items holds all the same, and nothing
+ * outside the two arrays is read or written. */
+#define DARY_HEAP_KEYED(function, ...)                                                                                 \
+    DARY_HEAP_MUST_USE bool dheap_max_##function##_keyed(struct dheap_entry *items, size_t len, size_t arity,          \
+                                                         __VA_ARGS__);                                                 \
+    DARY_HEAP_MUST_USE bool dheap_min_##function##_keyed(struct dheap_entry *items, size_t len, size_t arity,          \
+                                                         __VA_ARGS__)
+
+DARY_HEAP_KEYED(push, size_t *places, size_t count);
+DARY_HEAP_KEYED(pop, size_t *places, size_t count);
+DARY_HEAP_KEYED(fix, size_t place, size_t *places, size_t count);
+DARY_HEAP_KEYED(remove, size_t place, size_t *places, size_t count);
+
 #undef DARY_HEAP_FUNCTION
 #undef DARY_HEAP_OF_ORDER
+#undef DARY_HEAP_KEYED
 
 #ifdef __cplusplus
 }

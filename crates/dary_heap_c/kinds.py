@@ -1,5 +1,6 @@
 #!/usr/bin/env python3
-"""Makes the functions of each kind and order from those of src/signed.rt for max-heaps, which are written by hand.
+"""Makes the functions of each kind and order from those for max-heaps of src/signed.rt and src/keyed.rt, which are
+written by hand.
 
     kinds.py            writes them behind the line MARK of each source
     kinds.py --check    says instead which sources have others there, and fails if one has
@@ -10,17 +11,24 @@ import sys
 
 SOURCES = pathlib.Path(__file__).resolve().parent / "src"
 MARK = "// `kinds.py` makes what follows.\n\n"
-# A source, and what it has for five words of those written by hand: max, i64 in a name, i64 as the type of an item, int_cmp, ByOrd::new().
+# What the functions written by hand have for five words: the order, the end of a name, the type of an item, how items
+# are compared, and the judge.
+BY_HAND = {
+    "signed": ("max", "i64", "i64", "int_cmp", "ByOrd::new()"),
+    "keyed": ("max", "keyed", "Entry", "by_key", "ByKey::new()"),
+}
+# A source, that of the functions from which its own are made, and what these have for the five words.
 MADE = [
-    ("signed", "min", "i64", "i64", "(flip_args int_cmp)", "LeastFirst(ByOrd::new())"),
-    ("unsigned", "max", "u64", "u64", "nat_cmp", "ByOrd::new()"),
-    ("unsigned", "min", "u64", "u64", "(flip_args nat_cmp)", "LeastFirst(ByOrd::new())"),
-    ("double", "max", "double", "u64", "total_order", "ByKey::new()"),
-    ("double", "min", "double", "u64", "(flip_args total_order)", "LeastFirst(ByKey::new())"),
-    ("entry", "max", "entry", "Entry", "by_key", "ByKey::new()"),
-    ("entry", "min", "entry", "Entry", "(flip_args by_key)", "LeastFirst(ByKey::new())"),
-    ("sequenced", "max", "sequenced", "Item", "key_then_earlier", "ByKey::new()"),
-    ("sequenced", "min", "sequenced", "Item", "(flip_args key_then_later)", "LeastFirst(ByLater::new())"),
+    ("signed", "signed", "min", "i64", "i64", "(flip_args int_cmp)", "LeastFirst(ByOrd::new())"),
+    ("unsigned", "signed", "max", "u64", "u64", "nat_cmp", "ByOrd::new()"),
+    ("unsigned", "signed", "min", "u64", "u64", "(flip_args nat_cmp)", "LeastFirst(ByOrd::new())"),
+    ("double", "signed", "max", "double", "u64", "total_order", "ByKey::new()"),
+    ("double", "signed", "min", "double", "u64", "(flip_args total_order)", "LeastFirst(ByKey::new())"),
+    ("entry", "signed", "max", "entry", "Entry", "by_key", "ByKey::new()"),
+    ("entry", "signed", "min", "entry", "Entry", "(flip_args by_key)", "LeastFirst(ByKey::new())"),
+    ("sequenced", "signed", "max", "sequenced", "Item", "key_then_earlier", "ByKey::new()"),
+    ("sequenced", "signed", "min", "sequenced", "Item", "(flip_args key_then_later)", "LeastFirst(ByLater::new())"),
+    ("keyed", "keyed", "min", "keyed", "Entry", "(flip_args by_key)", "LeastFirst(ByKey::new())"),
 ]
 
 
@@ -34,13 +42,20 @@ def parted(source):
     return (by_hand, rest) if mark else sys.exit(f"src/{source}.rt has no line {MARK.strip()}")
 
 
-def made(functions, which, ending, item, order, judge):
+def functions_of(by_hand):
+    """Returns the functions of what is written by hand in a source."""
+    _, attribute, rest = by_hand.partition("#[unsafe(no_mangle)]")
+    return (attribute + rest).rstrip() + "\n"
+
+
+def made(functions, theirs, which, ending, item, order, judge):
     """Returns the functions written by hand with other words in them."""
+    old_which, old_ending, old_item, old_order, old_judge = map(re.escape, theirs)
     words = {
-        r"\bdheap_max_(\w+)_i64\b": rf"dheap_{which}_\1_{ending}",
-        r"\bi64\b": item,
-        r"\bint_cmp\b": order,
-        r"\bByOrd::new\(\)": judge,
+        rf"\bdheap_{old_which}_(\w+)_{old_ending}\b": rf"dheap_{which}_\1_{ending}",
+        rf"\b{old_item}\b": item,
+        rf"\b{old_order}\b": order,
+        rf"\b{old_judge}": judge,
     }
     for old, new in words.items():
         functions = re.sub(old, new, functions)
@@ -57,9 +72,10 @@ def main():
     if sys.argv[1:] not in ([], ["--check"]):
         sys.exit(__doc__)
     sources = {source: parted(source) for source, *_ in MADE}
-    _, attribute, rest = sources["signed"][0].partition("#[unsafe(no_mangle)]")
-    functions = (attribute + rest).rstrip() + "\n"
-    wanted = {source: "\n".join(made(functions, *words) for it, *words in MADE if it == source) for source in sources}
+    wanted = dict.fromkeys(sources, "")
+    for source, origin, *words in MADE:
+        functions = made(functions_of(sources[origin][0]), BY_HAND[origin], *words)
+        wanted[source] += ("\n" if wanted[source] else "") + functions
     others = [source for source in sources if sources[source][1] != wanted[source]]
     for source in others:
         if sys.argv[1:]:

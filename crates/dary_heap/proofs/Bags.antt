@@ -1,5 +1,7 @@
 -- What a bag holds once a value came to it, and which of it is a greatest. A bag from which one was taken is read the other way round. A greatest item bounds the others, in std's word for it.
-use Rattle.dary_heap.proofs.Common.{◌≡◌, ◌≢◌, ◌⊎◌, ◌<◌, List, [], ◌∷◌, ◌++◌, length, Contains, false, Option, Some, None, IfSome, inl, inr, refl, ap, ◌∙◌, subst, arith, Contains-append_right, Contains-append_cases, IsPermutation-sym, Contains-permutation, IsSameBag, front, IsTotalOrder, IsGreatest, AllByRecursion, is_lt, ordering_reverse, Ordering, Less, Equal, Greater, Bor}
+use Rattle.dary_heap.proofs.Common.{◌≡◌, ◌≢◌, ◌⊎◌, ◌<◌, List, [], ◌∷◌, ◌++◌, length, Contains, false, Option, Some, None, IfSome, inl, inr, refl, ap, ◌∙◌, subst, arith, Contains-append_right}
+use Rattle.dary_heap.proofs.Common.{Contains-append_cases, IsPermutation-sym, Contains-permutation, IsSameBag, front, IsTotalOrder, IsGreatest, AllByRecursion, is_lt, ordering_reverse, Ordering}
+use Rattle.dary_heap.proofs.Common.{Less, Equal, Greater, Bor}
 use Rattle.dary_heap.proofs.Fronts.{alone}
 use Rattle.dary_heap.proofs.Order.{not_greater-self, not_greater-trans}
 use Rattle.std.specs.BinaryHeap.{IsUpperBound}

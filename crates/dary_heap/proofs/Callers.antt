@@ -1,20 +1,28 @@
 -- The laws that proofs of callers need, found by `rt lemma`: what a list holds, bags, greatest items, pops in a row, heaps of `Reverse`, and comparisons.
-use Rattle.dary_heap.proofs.{set, slice_get-set_other, IsHeapOrderedButAt, IsAtMost-by, IsAtMost-over, sum_by, sum_by-set, sum_by-IsPermutation, AllByRecursion, Command, Reply, Runs, ◌≡◌, ◌≢◌, ℕ, ◌+◌, ◌<◌, ◌≤◌, min, Bool, true, false, if◌then◌else◌, List, [], ◌∷◌, ◌++◌, length, map, slice_set, All, Contains, Option, Some, None, Result, Ok, Err, Vec, arith, refl, sym, ap, ◌∙◌, subst, inl, inr, length-append, IsTotalOrder, Yields, nat_cmp, is_lt, ordering_reverse, ordering_then, Global, Ordering, Less, Greater, cases_lt, All-contains, All-contains_itself, All-weaker, Contains-append_cases, length_permutation, IsPermutation-refl, IsPermutation-sym, IsPermutation-trans, IsPermutation-cons, IsPermutation-middle, IsPermutation-append_left, IsSameBag, IsGreatest, Contents, IsPop, IsDescending, IsGivenDescending, front, zero, suc, get_or, slice_get, get_or_from_slice_get, slice_get_within, parent, IsHeapOrdered, alone, not_less, read}
+use Rattle.dary_heap.proofs.{set, slice_get-set_other, IsDistinct, IsDistinct-IsPermutation, IsDistinct-head, All-from_recursion, IsHeapOrderedButAt, IsAtMost-by, IsAtMost-over, sum_by, sum_by-set}
+use Rattle.dary_heap.proofs.{sum_by-IsPermutation, AllByRecursion, Command, Reply, Runs, ◌≡◌, ◌≢◌, ℕ}
+use Rattle.dary_heap.proofs.{◌+◌, ◌<◌, ◌≤◌, min, Bool, true, false, if◌then◌else◌, List, [], ◌∷◌, ◌++◌, length, map, slice_set, All, Contains, Option, Some, None, Result, Ok, Err, Vec, arith, refl}
+use Rattle.dary_heap.proofs.{sym, ap, ◌∙◌, subst, inl, inr, length-append, IsTotalOrder, Yields, nat_cmp, is_lt, ordering_reverse, ordering_then, Global, Ordering, Less, Greater, cases_lt}
+use Rattle.dary_heap.proofs.{All-contains, All-contains_itself, All-weaker, Contains-append_cases, length_permutation, IsPermutation-refl, IsPermutation-sym, IsPermutation-trans, IsPermutation-cons}
+use Rattle.dary_heap.proofs.{IsPermutation-middle, IsPermutation-append_left, IsSameBag, IsGreatest, Contents, IsPop, IsDescending, IsGivenDescending, front, zero, suc, get_or, slice_get}
+use Rattle.dary_heap.proofs.{get_or_from_slice_get, slice_get_within, parent, IsHeapOrdered, alone, not_less, read}
 use Rattle.std.proofs.Common.{IfOk, OnOk, is_ok}
 use Rattle.std.specs.Iterator.Adapters.{take_count, take_source, take_steps}
+use Rattle.std.specs.List.{HoldsAt}
 use Rattle.std.specs.Ordering.{is_some_and}
 use Rattle.std.specs.declared.alloc.AllocError.{AllocError}
 use Rattle.std.specs.declared.cmp.Reverse.{Reverse}
 use Rattle.std.specs.declared.iter.Take.{Take}
 use Rattle.std.proofs.lemmas.Cmp.{ranked, by_ranked}
 use Rattle.std.proofs.lemmas.Iterator.{IsCollectResult}
-use Rattle.std.proofs.lemmas.List.Elements.{All-cons, All-map, All-tail}
-use Rattle.std.proofs.lemmas.List.Sorted.{All-permutation, IsPermutation-map, IsPermutation-append_right, IsPermutation-pop_more}
+use Rattle.std.proofs.lemmas.List.Elements.{All-map}
+use Rattle.std.proofs.lemmas.List.Sorted.{IsPermutation-map, IsPermutation-append_right, IsPermutation-pop_more}
 use Rattle.std.proofs.lemmas.Iterator.Adapters.{YieldsAtMost}
 use Rattle.std.specs.BinaryHeap.{IsHeap}
 use Rattle.dary_heap.specs.TwoArities.{IsUnrefused, RunsUnrefused}
 use Rattle.dary_heap.specs.Extending.{IsRefusedAfter}
-pub use Rattle.dary_heap.proofs.Bags.{IsGreatest-stays, IsGreatest-overtaken, front_cases, Contains-cases, Contains-first, Contains-later, holds_none, has_none, came_first, came_later, came_cases, upper_bound, upper_bound_left}
+pub use Rattle.dary_heap.proofs.Bags.{IsGreatest-stays, IsGreatest-overtaken, front_cases, Contains-cases, Contains-first, Contains-later, holds_none, has_none, came_first, came_later, came_cases}
+pub use Rattle.dary_heap.proofs.Bags.{upper_bound, upper_bound_left}
 pub use Rattle.dary_heap.proofs.Order.{not_greater-self, not_greater-trans}
 pub use Rattle.dary_heap.proofs.Callable.{takes_in_turn, all_callable}
 pub use Rattle.dary_heap.proofs.Cancelling.{IsPermutation-uncons}
@@ -80,6 +88,21 @@ module _ {X : Type 0} {cmp : X → X → Ordering} (total : IsTotalOrder cmp) (D
   pub overwritten : (xs : List X) (x : X) → IsHeapOrdered cmp D xs → IsHeapOrderedButAt cmp D place (set xs place x)
   overwritten xs x h = still_but_at D place xs (set xs place x) (λ k other inside. slice_get-set_other xs place k x other) (ordered_but_at xs h)
 
+-- ---- an item that was found at a place of the slice
+
+-- what is known of the place, as by `position`, is known of the item that `remove_at` or `replace_at` returns for it
+pub holds_of_returned : {X : Type 0} (P : X → Type 0) (items : List X) (place : ℕ) (item : X) → HoldsAt P items place → slice_get items place ≡ Some item → P item
+holds_of_returned P items place item h at = subst P (get_or_from_slice_get items place item item at) (h item)
+
+-- if the keys of the items are distinct, no item that is left has the key of the one that was removed
+pub none_left : {X K : Type 0} (key : X → K) (equal : K → K → Bool) → ((j k : K) → equal j k ≡ equal k j) → (items left : List X) (item : X) → IsDistinct equal (map key items) →
+    IsSameBag items (item ∷ left) → All (λ other. equal (key item) (key other) ≡ false) left
+none_left {X} {K} key equal flips items left item distinct went =
+    let apart : IsDistinct equal (key item ∷ map key left) = IsDistinct-IsPermutation equal flips _ _ (IsPermutation-map key items (item ∷ left) went) distinct in
+    let others : All (λ (k : K). equal (key item) k ≡ false) (map key left) = All-from_recursion (λ (k : K). equal (key item) k ≡ false) _ (IsDistinct-head equal (key item) (map key left) apart) in
+    All-weaker (Contains left) (λ (other : X). equal (key item) (key other) ≡ false)
+    (λ other there. All-contains (λ (k : K). equal (key item) k ≡ false) (map key left) (key other) others (Contains-map key left other there)) left (All-contains_itself left)
+
 -- ---- pops in a row
 
 IsDescending-push : {X : Type 0} (cmp : X → X → Ordering) (xs : List X) (m : X) → IsDescending cmp xs → ((x : X) → Contains xs x → cmp m x ≢ Greater) → IsDescending cmp (xs ++ m ∷ [])
@@ -98,7 +121,8 @@ module _ {X : Type 0} {cmp : X → X → Ordering} where
   IsGivenDescending-none items = record { bag = IsPermutation-refl items; descending = tt; none_greater = λ x y in' there. absurd (holds_none x in') }
 
   -- and its step, by the clauses `greatest` and `bag` of `pop`
-  pub IsGivenDescending-pop : (items given left rest : List X) (m : X) → IsGivenDescending cmp items given left → IsGreatest cmp left m → IsSameBag left (m ∷ rest) → IsGivenDescending cmp items (given ++ m ∷ []) rest
+  pub IsGivenDescending-pop : (items given left rest : List X) (m : X) → IsGivenDescending cmp items given left → IsGreatest cmp left m → IsSameBag left (m ∷ rest) →
+      IsGivenDescending cmp items (given ++ m ∷ []) rest
   IsGivenDescending-pop items given left rest m h greatest bag = record {
     bag = IsPermutation-pop_more items given left rest m h.bag bag;
     descending = IsDescending-push cmp given m h.descending (λ x in'. h.none_greater x m in' greatest.occurs);
@@ -111,23 +135,27 @@ module _ {X : Type 0} {cmp : X → X → Ordering} where
   }
 
 -- what the first few calls give is what the same calls of the source give
-pub take_yields : {S A : Type 0} (steps : S → Option A → S → Type 0) (s : Take S) (xs : List A) (t : Take S) → Yields (take_steps steps) s xs t → Yields steps (take_source s) xs (take_source t) × (length xs + take_count t ≡ take_count s)
+pub take_yields : {S A : Type 0} (steps : S → Option A → S → Type 0) (s : Take S) (xs : List A) (t : Take S) → Yields (take_steps steps) s xs t → Yields steps (take_source s) xs (take_source t) ×
+    (length xs + take_count t ≡ take_count s)
 take_yields steps s [] t run = (ap take_source run, omega (arith, ap take_count run))
 take_yields steps s (x ∷ xs) t run = let rest = take_yields steps run.0 xs t run.2 in ((take_source run.0, run.1.0, rest.0), omega (arith, rest.1, run.1.1))
 
 module _ {X : Type 0} (cmp : X → X → Ordering) (D : ℕ) where
-  first_pops : (heap : Contents X) (k : ℕ) (s t u : Take (Contents X)) (xs : List X) → take_source s ≡ heap → take_count s ≡ k → Yields (take_steps (IsPop cmp D)) s xs t → take_steps (IsPop cmp D) t None u → (left : List X) × IsGivenDescending cmp heap.items xs left × (length xs ≡ min k (length heap.items))
+  first_pops : (heap : Contents X) (k : ℕ) (s t u : Take (Contents X)) (xs : List X) → take_source s ≡ heap → take_count s ≡ k → Yields (take_steps (IsPop cmp D)) s xs t →
+      take_steps (IsPop cmp D) t None u → (left : List X) × IsGivenDescending cmp heap.items xs left × (length xs ≡ min k (length heap.items))
   first_pops heap k s t u xs source count run ended =
       let taken = take_yields (IsPop cmp D) s xs t run in
       let left = take_source t in
       let part = pops_given cmp D heap xs left (rw source at taken.0) in
       let long : length xs + length left.items ≡ length heap.items = omega (arith, length_permutation _ _ part.bag, length-append xs left.items) in
       let all : 0 < take_count t → length left.items ≡ 0 = λ more. ap length (none_first left.items (ended more).first) in
-      let as_many : length xs ≡ min k (length heap.items) = elim (cases_lt 0 (take_count t)) [ inl some ↦ omega (arith, all some, long, taken.1, count) | inr none ↦ omega (arith, none, long, taken.1, count) ] in
+      let as_many : length xs ≡ min k (length heap.items) =
+      elim (cases_lt 0 (take_count t)) [ inl some ↦ omega (arith, all some, long, taken.1, count) | inr none ↦ omega (arith, none, long, taken.1, count) ] in
       (left.items, part, as_many)
 
   -- `into_iter_sorted().take(k).collect(alloc)` as k pops, or as many as there are items
-  pub take_pops : (heap : Contents X) (k : ℕ) (s : Take (Contents X)) (r : Result (Vec X Global) AllocError) → take_source s ≡ heap → take_count s ≡ k → IsCollectResult (take_steps (IsPop cmp D)) s r → IfOk r (λ v. (left : List X) × IsGivenDescending cmp heap.items v.items left × (length v.items ≡ min k (length heap.items)))
+  pub take_pops : (heap : Contents X) (k : ℕ) (s : Take (Contents X)) (r : Result (Vec X Global) AllocError) → take_source s ≡ heap → take_count s ≡ k →
+      IsCollectResult (take_steps (IsPop cmp D)) s r → IfOk r (λ v. (left : List X) × IsGivenDescending cmp heap.items v.items left × (length v.items ≡ min k (length heap.items)))
   take_pops heap k s (Ok v) source count ran =
       let run = ran.1 in
       let ended = run.2 tt in
@@ -137,7 +165,8 @@ module _ {X : Type 0} (cmp : X → X → Ordering) (D : ℕ) where
 -- ---- two arities
 
 -- a run of the code in which nothing is refused is one of the machine
-pub RunsUnrefused-from : {X P : Type 0} {cmp : X → X → Ordering} {calls : P → X → Bool → P → Type 0} {D : ℕ} (old new : Contents X) (commands : List (Command X P)) (replies : List (Reply X)) → Runs cmp calls D old commands replies new → AllByRecursion IsUnrefused replies → RunsUnrefused cmp calls old.items commands replies new.items
+pub RunsUnrefused-from : {X P : Type 0} {cmp : X → X → Ordering} {calls : P → X → Bool → P → Type 0} {D : ℕ} (old new : Contents X) (commands : List (Command X P)) (replies : List (Reply X)) →
+    Runs cmp calls D old commands replies new → AllByRecursion IsUnrefused replies → RunsUnrefused cmp calls old.items commands replies new.items
 RunsUnrefused-from old new commands replies runs unrefused = record { states = runs.states; begins = runs.begins; run = runs.run; ends = runs.ends; unrefused = unrefused }
 
 -- ---- a heap of `Reverse`, which gives the least first
@@ -151,20 +180,13 @@ module _ {X : Type 0} (seen : List X) (old new : List (Reverse X)) (item : Rever
   pub reversed_went : IsSameBag old (item ∷ new) → IsSameBag seen (item.0 ∷ map (λ (r : Reverse X). r.0) new)
   reversed_went bag = subst (λ (xs : List X). IsSameBag xs (item.0 ∷ map (λ (r : Reverse X). r.0) new)) view (IsPermutation-map (λ (r : Reverse X). r.0) old (item ∷ new) bag)
 
-module _ {X : Type 0} (P : X → Type 0) (old new : List (Reverse X)) (item : Reverse X) (all : All P (map (λ (r : Reverse X). r.0) old)) where
-  -- what holds of all that were in the bag and of what came holds of all
-  pub reversed_all_came : P item.0 → IsSameBag (item ∷ old) new → All P (map (λ (r : Reverse X). r.0) new)
-  reversed_all_came here bag = All-permutation P (map (λ (r : Reverse X). r.0) (item ∷ old)) (map (λ (r : Reverse X). r.0) new) (IsPermutation-map (λ (r : Reverse X). r.0) (item ∷ old) new bag) (All-cons P item.0 (map (λ (r : Reverse X). r.0) old) here all)
-
-  -- and it holds of all that are left
-  pub reversed_all_left : IsSameBag old (item ∷ new) → All P (map (λ (r : Reverse X). r.0) new)
-  reversed_all_left bag = All-tail P item.0 (map (λ (r : Reverse X). r.0) new) (All-permutation P (map (λ (r : Reverse X). r.0) old) (map (λ (r : Reverse X). r.0) (item ∷ new)) (IsPermutation-map (λ (r : Reverse X). r.0) old (item ∷ new) bag) all)
-
 -- a greatest of the reversed items is a least item: it is there, and exceeds none
-pub reversed_least : {X : Type 0} {cmp : X → X → Ordering} (items : List (Reverse X)) (item : Reverse X) → IsGreatest (λ x y. cmp y.0 x.0) items item → IsGreatest (λ x y. cmp y x) (map (λ (r : Reverse X). r.0) items) item.0
+pub reversed_least : {X : Type 0} {cmp : X → X → Ordering} (items : List (Reverse X)) (item : Reverse X) → IsGreatest (λ x y. cmp y.0 x.0) items item →
+    IsGreatest (λ x y. cmp y x) (map (λ (r : Reverse X). r.0) items) item.0
 reversed_least {X} {cmp} items item h = record {
   occurs = Contains-map (λ (r : Reverse X). r.0) items item h.occurs;
-  none_above = λ x in'. All-contains (λ (v : X). cmp item.0 v ≢ Greater) (map (λ (r : Reverse X). r.0) items) x (All-mapped (λ (v : X). cmp item.0 v ≢ Greater) (λ (r : Reverse X). r.0) items (λ r there. h.none_above r there)) in';
+  none_above = λ x in'. All-contains (λ (v : X). cmp item.0 v ≢ Greater) (map (λ (r : Reverse X). r.0) items) x
+      (All-mapped (λ (v : X). cmp item.0 v ≢ Greater) (λ (r : Reverse X). r.0) items (λ r there. h.none_above r there)) in';
 }
 
 module _ {X : Type 0} {cmp : X → X → Ordering} (key : X → ℕ) (by_key : (x y : X) → cmp x y ≢ Greater → key x ≤ key y) where
@@ -173,7 +195,8 @@ module _ {X : Type 0} {cmp : X → X → Ordering} (key : X → ℕ) (by_key : (
   reversed_least_key items item h = All-mapped (λ other. key item.0 ≤ key other) (λ (r : Reverse X). r.0) items (λ x in'. by_key item.0 x.0 (h.none_above x in'))
 
   -- if the front is a greatest of the reversed ones and its key is above a bound, so are all keys
-  pub reversed_all_above : (bound : ℕ) (items : List (Reverse X)) → ((item : Reverse X) → front items ≡ Some item → IsGreatest (λ x y. cmp y.0 x.0) items item) → ((item : Reverse X) → front items ≡ Some item → bound < key item.0) → All (λ other. bound < key other) (map (λ (r : Reverse X). r.0) items)
+  pub reversed_all_above : (bound : ℕ) (items : List (Reverse X)) → ((item : Reverse X) → front items ≡ Some item → IsGreatest (λ x y. cmp y.0 x.0) items item) →
+      ((item : Reverse X) → front items ≡ Some item → bound < key item.0) → All (λ other. bound < key other) (map (λ (r : Reverse X). r.0) items)
   reversed_all_above bound items shown h = All-mapped (λ other. bound < key other) (λ (r : Reverse X). r.0) items (λ x in'. elim (front_cases items) [
     | inl none ↦ absurd (holds_none x (subst (λ (xs : List (Reverse X)). Contains xs x) none in'))
     | inr some ↦
@@ -196,7 +219,8 @@ module _ {X : Type 0} (Gives : X → Bool → Type 0) where
   by_no_answer x false h is = h
 
   -- if an item came out, the predicate returned yes for it
-  pub pop_if_yes : (items : List X) (item : X) → (items ≡ [] → Some item ≡ None) → ((x : X) → front items ≡ Some x → (answer : Bool) × Gives x answer × (Some item ≡ (if answer then Some x else None))) → Gives item true
+  pub pop_if_yes : (items : List X) (item : X) → (items ≡ [] → Some item ≡ None) →
+      ((x : X) → front items ≡ Some x → (answer : Bool) × Gives x answer × (Some item ≡ (if answer then Some x else None))) → Gives item true
   pop_if_yes items item empty asked = elim (front_cases items) [
     | inl none ↦ absurd (let e = empty none in cc)
     | inr some ↦ (let a = asked some.0 some.1 in by_answer some.0 item a.0 a.1 a.2)
@@ -274,7 +298,8 @@ module _ {X : Type 0} {cmp : X → X → Ordering} (total : IsTotalOrder cmp) wh
   descending_at (z ∷ zs) h (suc i) (suc j) x y before at_i at_j = descending_at zs h.1 i j x y (omega (arith, before)) at_i at_j
 
 -- an iterator that gives at most n items can't lack room for n
-pub extend_fits : {S A : Type 0} {steps : S → Option A → S → Type 0} {from : S} (n : ℕ) (xs : List A) (len capacity : ℕ) → YieldsAtMost steps from n → len + n ≤ capacity → IsRefusedAfter steps from xs len capacity → ⊥
+pub extend_fits : {S A : Type 0} {steps : S → Option A → S → Type 0} {from : S} (n : ℕ) (xs : List A) (len capacity : ℕ) → YieldsAtMost steps from n → len + n ≤ capacity →
+    IsRefusedAfter steps from xs len capacity → ⊥
 extend_fits n xs len capacity few room h = omega (arith, few.runs _ _ h.gave, length-append xs (h.refused ∷ []), h.full, room)
 
 -- what is told of one outcome is told of another with the same variant: `map_err` leaves an `Ok` an `Ok`

@@ -1,5 +1,7 @@
 -- Which item is the first once an item came in.
-use Rattle.dary_heap.proofs.Common.{◌≡◌, ◌≢◌, ℕ, inl, inr, zero, suc, ◌<◌, List, [], ◌∷◌, ◌++◌, length, refl, sym, ap, ◌∙◌, subst, arith, Some, slice_get, Contains, IsPermutation, if◌then◌else◌, length-append, slice_get_within, Contains-append_cases, Contains-push, IsPermutation-refl, IsPermutation-sym, Contains-permutation, length_permutation, IsTotalOrder, is_gt, Ordering, Greater, IsHeapOrdered, StaysFirst, IsState, IsSameState, front, front_with}
+use Rattle.dary_heap.proofs.Common.{◌≡◌, ◌≢◌, ℕ, inl, inr, zero, suc, ◌<◌, List, [], ◌∷◌, ◌++◌, length, refl, sym, ap, ◌∙◌, subst, arith, Some, slice_get, Contains, IsPermutation, if◌then◌else◌}
+use Rattle.dary_heap.proofs.Common.{length-append, slice_get_within, Contains-append_cases, Contains-push, IsPermutation-refl, IsPermutation-sym, Contains-permutation, length_permutation}
+use Rattle.dary_heap.proofs.Common.{IsTotalOrder, is_gt, Ordering, Greater, IsHeapOrdered, StaysFirst, IsState, IsSameState, front, front_with}
 use Rattle.dary_heap.proofs.Order.{slice_get-append, first_is_greatest, not_greater-trans, read, slice_get-push}
 
 -- the one item of a list
@@ -38,7 +40,8 @@ module _ {X : Type 0} {cmp : X → X → Ordering} (total : IsTotalOrder cmp) (D
       let within : 0 < length xs = slice_get_within xs 0 f first in
       stays.stays f x (ap (λ l. slice_get l 0) is ∙ slice_get-append xs (x ∷ []) 0 within ∙ first) (ap (λ l. slice_get l (length xs)) is ∙ slice_get-push xs x) under
 
-  by_test : (xs : List X) (f : X) → slice_get xs 0 ≡ Some f → IsHeapOrdered cmp D xs → ws ≡ xs ++ x ∷ [] → StaysFirst cmp (length xs) ws zs → (r : Ordering) → cmp x f ≡ r → slice_get zs 0 ≡ Some (if is_gt r then x else f)
+  by_test : (xs : List X) (f : X) → slice_get xs 0 ≡ Some f → IsHeapOrdered cmp D xs → ws ≡ xs ++ x ∷ [] → StaysFirst cmp (length xs) ws zs → (r : Ordering) → cmp x f ≡ r →
+      slice_get zs 0 ≡ Some (if is_gt r then x else f)
   by_test xs f first before is stays Greater e = above xs f first before is e
   by_test xs f first before is stays r e = below xs f first is stays (λ g. cc)
 

@@ -30,7 +30,8 @@ pub record IsExtended {T : Type 0} (cmp : T → T → Ordering) (D : ℕ) (old :
   pub capacity : old.capacity ≤ new.capacity
 
 -- an iterator gave what came in, and then an item for which memory allocation failed
-pub record IsExtendedUntilRefused {V S A T : Type 0} (becomes : V → S → Type 0) (steps : S → Option A → S → Type 0) (value : A → T) (cmp : T → T → Ordering) (D : ℕ) (iter : V) (old new : Contents T) : Type 0 where
+pub record IsExtendedUntilRefused {V S A T : Type 0} (becomes : V → S → Type 0) (steps : S → Option A → S → Type 0) (value : A → T) (cmp : T → T → Ordering) (D : ℕ) (iter : V)
+    (old new : Contents T) : Type 0 where
   pub from : S
   pub came : List A
   pub begins : becomes iter from

@@ -14,22 +14,22 @@ IsExceeded cmp [] = ⊥
 IsExceeded cmp (held ∷ rest) = HasGreater cmp rest held
 
 -- there is a first item, and the items are heap ordered, except that the first may be exceeded by its children once it was written
-pub record IsLent {T : Type 0} (cmp : T → T → Ordering) (D : ℕ) (written : Bool) (items : List T) : Type 0 where
+pub record IsOnLoan {T : Type 0} (cmp : T → T → Ordering) (D : ℕ) (written : Bool) (items : List T) : Type 0 where
   pub some : 0 < length items
   pub below_root : IsHeapOrderedBelowRoot cmp D items
   pub whole : written ≡ false → IsHeapOrdered cmp D items
 
-pub IsLent-prop : {T : Type 0} (cmp : T → T → Ordering) (D : ℕ) (written : Bool) (items : List T) → IsProp (IsLent cmp D written items)
-IsLent-prop cmp D written items = Prim.hlevel props
+pub IsOnLoan-prop : {T : Type 0} (cmp : T → T → Ordering) (D : ℕ) (written : Bool) (items : List T) → IsProp (IsOnLoan cmp D written items)
+IsOnLoan-prop cmp D written items = Prim.hlevel props
 
 -- what is written to the first item changes no other
 behind : {T : Type 0} (w held : T) (rest : List T) (i : ℕ) → 0 < i → slice_get (w ∷ rest) i ≡ slice_get (held ∷ rest) i
 behind w held rest zero up = absurd (omega arith)
 behind w held rest (suc k) up = refl
 
-pub IsLent-written : {T : Type 0} (cmp : T → T → Ordering) (D : ℕ) (written : Bool) (items : List T) (w : T) → IsLent cmp D written items → IsLent cmp D true (slice_set items 0 w)
-IsLent-written cmp D written [] w h = absurd (omega (arith, h.some))
-IsLent-written cmp D written (held ∷ rest) w h = record {
+pub IsOnLoan-written : {T : Type 0} (cmp : T → T → Ordering) (D : ℕ) (written : Bool) (items : List T) (w : T) → IsOnLoan cmp D written items → IsOnLoan cmp D true (slice_set items 0 w)
+IsOnLoan-written cmp D written [] w h = absurd (omega (arith, h.some))
+IsOnLoan-written cmp D written (held ∷ rest) w h = record {
   some = omega arith;
   below_root = record {
     below_parent = λ i under. record {

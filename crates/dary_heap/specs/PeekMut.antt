@@ -3,11 +3,11 @@ use Rattle.std.specs.Prelude.{Bool}
 use Rattle.std.specs.Borrow.{GName}
 use Rattle.dary_heap.specs.Contents.{Contents}
 use Rattle.dary_heap.specs.declared.sift.judge.Judge as judge
-use Rattle.dary_heap.specs.declared.peek_mut.held.Held as held
+use Rattle.dary_heap.specs.declared.peek_mut.loaned_items.LoanedItems as loaned_items
 use Rattle.dary_heap.specs.declared.peek_mut.PeekMut.{PeekMut}
 use Prim.Native.Nat.{ℕ}
 
-module _ {T J I : Type 0} {D : ℕ} {j : judge.Ghosts J T} {h : held.Ghosts I T} where
+module _ {T J I : Type 0} {D : ℕ} {j : judge.Ghosts J T} {h : loaned_items.Ghosts I T} where
   -- the heap as the end of the loan has it before any repair: its items, the first as last written, the capacity, and the comparisons so far
   abbrev pub loaned : PeekMut T D J I j h → Contents T
   loaned loan = record { items = h.list loan.items; capacity = h.room loan.items; comparisons = loan.heap.now.comparisons }

@@ -30,7 +30,8 @@ pub record HasNoTies {T : Type 0} (cmp : T → T → Ordering) (values : List T)
   pub alike : (x y : T) → Contains values x → Contains values y → cmp x y ≡ Equal → x ≡ y
 
 -- the machine may give these replies to these commands on the way from one state to another, and none of them is a refusal
-pub record RunsUnrefused {T P : Type 0} (cmp : T → T → Ordering) (calls : P → T → Bool → P → Type 0) (start : List T) (commands : List (Command T P)) (replies : List (Reply T)) (end : List T) : Type 0 where
+pub record RunsUnrefused {T P : Type 0} (cmp : T → T → Ordering) (calls : P → T → Bool → P → Type 0) (start : List T) (commands : List (Command T P)) (replies : List (Reply T))
+    (end : List T) : Type 0 where
   pub states : List (List T)
   pub begins : IsState cmp start
   pub run : Steps cmp calls start commands replies states

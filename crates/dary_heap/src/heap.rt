@@ -20,6 +20,7 @@ mod capacity;
 mod convert;
 mod filter;
 mod join;
+mod place;
 
 /// A priority queue. [`pop`](DaryHeap::pop) returns a greatest item: one that no other is strictly greater than.
 ///

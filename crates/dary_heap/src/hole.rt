@@ -5,7 +5,7 @@
 //! for that, and [`with_places`] lends the places of a slice.
 ghost use Rattle.std.specs.Prelude.{◌≡◌};
 ghost use Rattle.std.specs.Borrow.{MutBor};
-ghost use Rattle.dary_heap.specs.Hole.{IsSameSlice};
+ghost use Rattle.dary_heap.specs.hole.Hole.{IsSameSlice};
 ghost use Rattle.dary_heap.specs.declared.hole.places.Places.{Places as Whole};
 
 mod places;

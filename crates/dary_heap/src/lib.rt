@@ -33,22 +33,13 @@
 //!
 //! # Costs
 //!
-//! The greatest number of comparisons, for `n` items at an arity `D` of 2 or more. The contracts have the exact bounds,
-//! at every arity, and they are proved; that of `into_sorted_vec` is [`sort_with`](sift::sort_with)'s.
+//! The greatest number of comparisons, for `n` items at an arity `D` of 2 or more:
 //!
-//! | method | comparisons, at most |
-//! |---|---|
-//! | [`push`](DaryHeap::push) | the depth of the new place: *O*(log *n*) |
-//! | [`pop`](DaryHeap::pop), [`pop_if`](DaryHeap::pop_if), [`PeekMut::pop`] | `D` times the depth of the last place: *O*(log *n*) |
-//! | [`peek_mut`](DaryHeap::peek_mut) | none; once the item is written, `D` times the depth of the last place, at a `refresh` and at the end |
-//! | `from` of a vector, [`from_array`](DaryHeap::from_array), `collect`, [`clone`](DaryHeap::clone) | `2 * (n - 1)` |
-//! | `extend` by `k` items, [`append`](DaryHeap::append) of heaps of which the shorter has `k` | `2 * (n - 1)`, or `k` times the depth of the last place if that is more |
-//! | [`retain`](DaryHeap::retain) | the same, with the kept items from the first removed one on as `k` |
-//! | [`into_iter_sorted`](DaryHeap::into_iter_sorted), [`drain_sorted`](DaryHeap::drain_sorted), [`into_sorted_vec`](DaryHeap::into_sorted_vec) | a pop for each item |
-//! | [`peek`](DaryHeap::peek), [`len`](DaryHeap::len), [`iter`](DaryHeap::iter), [`drain`](DaryHeap::drain), [`into_vec`](DaryHeap::into_vec), [`clear`](DaryHeap::clear), [`reserve`](DaryHeap::reserve) and the heap's other methods | none |
+//! | [push](DaryHeap::push) | [pop](DaryHeap::pop) | [peek](DaryHeap::peek) | `from` of a vector |
+//! |---|---|---|---|
+//! | *O*(log *n*) | *O*(*D* log *n*) | none | `2 * (n - 1)` |
 //!
-//! The depth of a place is the number of steps from it up to the first place: at most the logarithm
-//! of `(D - 1) * place + 1` to the base `D`. [`sift::depth`] returns it.
+//! `RULES.md` has the bounds of all calls as numbers. Each call's contract states its bound, which is proved.
 //!
 //! # Modules
 //!

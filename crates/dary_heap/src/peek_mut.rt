@@ -5,14 +5,14 @@
 //!
 //! The contracts call a `PeekMut` a *loan*, and its item the one *on loan*. A clause sees a loan by
 //! the words of `specs/PeekMut.antt`, and as `exit.0.now` the heap's contents after its end.
-ghost use Rattle.dary_heap.specs.Loan.{IsLent, IsLent-prop, IsExceeded};
+ghost use Rattle.dary_heap.specs.Loan.{IsOnLoan, IsOnLoan-prop, IsExceeded};
 
 use crate::heap::DaryHeap;
 use crate::sift::{ByOrd, Judge, sink_with};
-use held::Held;
+use loaned_items::LoanedItems;
 use std::mem;
 
-mod held;
+mod loaned_items;
 mod methods;
 
 /// The greatest item of a heap, which [`DaryHeap::peek_mut`] returns. It is read and written through `*`.
@@ -36,15 +36,15 @@ mod methods;
 /// }
 /// assert_eq!(rt; heap.as_slice(), [2, 1, 0].as_slice());
 /// ```
-// The type of `items` is a parameter, which callers leave out, for the reason that `Held` gives.
-pub struct PeekMut<'a, T, const D: usize, J: Judge<T> = ByOrd, I: Held<T> = Vec<T>> {
+// The type of `items` is a parameter, which callers leave out, for the reason that `LoanedItems` gives.
+pub struct PeekMut<'a, T, const D: usize, J: Judge<T> = ByOrd, I: LoanedItems<T> = Vec<T>> {
     heap: &'a mut DaryHeap<T, D, J>,
     items: I,
     written: bool,
-    ghost lent: { IsLent J.order D written (I.list items) } by { IsLent-prop _ _ _ (I.list items) },
+    ghost on_loan: { IsOnLoan J.order D written (I.list items) } by { IsOnLoan-prop _ _ _ (I.list items) },
 }
 
-impl<'a, T: Drop, const D: usize, J: Judge<T>, I: Held<T>> Drop for PeekMut<'a, T, D, J, I> {
+impl<'a, T: Drop, const D: usize, J: Judge<T>, I: LoanedItems<T>> Drop for PeekMut<'a, T, D, J, I> {
     ghost use Rattle.std.specs.Prelude.{◌≡◌, ◌+◌, false, length};
     ghost use Rattle.dary_heap.specs.Bag.{IsSameBag};
     ghost use Rattle.dary_heap.specs.Bounds.{RisesWithin, pop_bound, sink_bound};

@@ -10,8 +10,8 @@ ghost use Rattle.std.specs.Ordering.{as_partial_cmp};
 ghost use Rattle.std.specs.Prelude.{◌≡◌, ◌+◌, ◌*◌, ◌<◌, ◌≤◌, [], ◌∷◌, ◌++◌, IfOk, IfErr, OnOk, IfSome, IfNone, All, length};
 ghost use Rattle.std.specs.List.{sum_by};
 ghost use Rattle.dary_heap.specs.Bounds.{RisesWithin, push_bound, pop_bound};
-ghost use Rattle.dary_heap.specs.Searching.{state_cmp, Relaxes, HasTooLarge};
-ghost use Rattle.dary_heap.specs.Examining.{AreExamined, AreExaminedOnce, Pushes};
+ghost use Rattle.dary_heap.specs.shortest_path.Searching.{state_cmp, Relaxes, HasTooLarge};
+ghost use Rattle.dary_heap.specs.shortest_path.Examining.{AreExamined, AreExaminedOnce, Pushes};
 ghost use Rattle.dary_heap.specs.Walk.{IsWithin, IsLeastCost, IsUnreached, HasCritical, NoneCriticalBelow};
 ghost use Rattle.dary_heap.specs.declared.shortest_path.PathRefusal.TheVariants.{NoMemory, CostTooLarge};
 
@@ -63,7 +63,7 @@ impl Ord for State {
     ghost matches_eq = { Prim.search (comparing, rules) };
 
     fn cmp(&self, other: &State) -> Ordering {
-        // The costs stand the other way round.
+        // Costs are compared in reverse.
         other
             .cost
             .cmp(&self.cost)

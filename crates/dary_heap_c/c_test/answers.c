@@ -38,26 +38,29 @@ static void check(bool right, enum function function, const char *kind, size_t l
 /* Where the items of a test stand. */
 enum place { BETWEEN_GUARDS, BEFORE_A_PAGE, BEHIND_A_PAGE, PLACES };
 
-/* A page between two that can't be read or written. */
-static char *page;
+/* Two pages, each between two that can't be read or written: one for items, and one for places. */
+static char *page, *places_page;
 static size_t page_size;
 
-static void make_page(void) {
+static char *made_page(void) {
     page_size = (size_t)sysconf(_SC_PAGESIZE);
     char *const pages = mmap(NULL, 3 * page_size, PROT_NONE, MAP_PRIVATE | MAP_ANONYMOUS, -1, 0);
     if (pages == MAP_FAILED || mprotect(pages + page_size, page_size, PROT_READ | PROT_WRITE) != 0)
         abort();
-    page = pages + page_size;
+    return pages + page_size;
 }
 
-/* Room for so many items. Beside it is room for a guard, or a page where a read or a write ends the program. */
-static void *array(enum place where, size_t len, size_t size) {
+/* Room for so many items in a page. Beside it is room for a guard, or a page where a read or a write ends the
+ * program. */
+static void *array_in(char *in, enum place where, size_t len, size_t size) {
     switch (where) {
-    case BEFORE_A_PAGE: return page + page_size - len * size;
-    case BEHIND_A_PAGE: return page;
-    default: return page + size;
+    case BEFORE_A_PAGE: return in + page_size - len * size;
+    case BEHIND_A_PAGE: return in;
+    default: return in + size;
     }
 }
+
+static void *array(enum place where, size_t len, size_t size) { return array_in(page, where, len, size); }
 
 /* Lets the page be read alone, or written again. */
 static void protect(bool reads_only) {
@@ -165,6 +168,8 @@ static struct dheap_sequenced sequenced_of(int64_t key, uint64_t value) {
 #define EARLIER(a, b) ((a).sequence < (b).sequence)
 #include "kind.h"
 
+#include "keyed.h"
+
 /* Items with few different keys come out in the order of their keys, and equal ones in the order in which they came
  * in. */
 static void test_turns(void) {
@@ -187,7 +192,8 @@ static void test_turns(void) {
 
 int main(int words, char **word) {
     const bool is_short = words > 1 && strcmp(word[1], "short") == 0;
-    make_page();
+    page = made_page();
+    places_page = made_page();
     for (size_t i = 0; i < 2 * DARY_HEAP_ARITY_MAX; i++) {
         arity = 1 + i / 2;
         is_max = i % 2 == 0;
@@ -198,6 +204,7 @@ int main(int words, char **word) {
         test_entry(has_long);
         test_sequenced(has_long);
         test_turns();
+        test_keyed();
     }
     printf("dary_heap_c: %d of %d answers are wrong%s\n", wrong, checks, is_short ? ", without long arrays" : "");
     return wrong != 0;

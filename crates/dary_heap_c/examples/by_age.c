@@ -1,4 +1,4 @@
-/* Sorts structs of your own by a key and an index.
+/* Sorts structs of your own by a key.
  *
  * The library takes no comparison function. So the keys go into an array of dheap_entry, each with the index of
  * its struct as the value, and the structs stay where they are. */

@@ -1,7 +1,7 @@
 /* Prints the greatest K numbers of standard input, the greatest first, in memory for K numbers.
  *
- * They are a min-heap. A number that is greater than the least of them takes its place, and `replace` repairs
- * the heap. */
+ * They are kept as a min-heap. A number that is greater than the least of them takes the place of that one, and
+ * `replace` repairs the heap. */
 #include <dary_heap_c.h>
 
 #include <inttypes.h>

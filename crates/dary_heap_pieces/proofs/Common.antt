@@ -1,5 +1,7 @@
 -- What the proofs of this crate import from elsewhere: names of std, of the logic and of `specs`.
-pub use Rattle.std.proofs.Common.{Contains, List, None, Option, Some, [], ap, append-nil, append_assoc, arith, drop, get_or, get_or-set_other, get_or-set_same, inl, inr, is_some, length, length-append, length-set, length-take-le, refl, slice_get, slice_set, subst, suc, sym, take, true, vec_capacity, vec_len, zero, ℕ, ◌%◌, ◌*◌, ◌++◌, ◌+◌, ◌-◌, ◌<◌, ◌^◌, ◌∙◌, ◌∷◌, ◌≡◌, ◌≢◌, ◌≤◌, ◌⊎◌}
+pub use Rattle.std.proofs.Common.{Contains, List, None, Option, Some, [], ap, append-nil, append_assoc, arith, drop, get_or, get_or-set_other, get_or-set_same, inl, inr, is_some, length}
+pub use Rattle.std.proofs.Common.{length-append, length-set, length-take-le, refl, slice_get, slice_set, subst, suc, sym, take, true, vec_capacity, vec_len, zero, ℕ, ◌%◌, ◌*◌, ◌++◌, ◌+◌, ◌-◌, ◌<◌}
+pub use Rattle.std.proofs.Common.{◌^◌, ◌∙◌, ◌∷◌, ◌≡◌, ◌≢◌, ◌≤◌, ◌⊎◌}
 pub use Rattle.std.proofs.Math.Seq.{drop-append-add, get_or-append_seam, map-set_same, take-add, take-append_seam}
 pub use Rattle.std.proofs.lemmas.Bool.{cases_eq, cases_lt, true≢false}
 pub use Rattle.std.proofs.lemmas.List.{drop-drop, drop-set-lt, drop_all, get_or-drop, get_or_append_left, length_push, take-append-drop, take-set-le, take_at, take_more}

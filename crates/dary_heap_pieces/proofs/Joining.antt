@@ -1,5 +1,7 @@
 -- Links in which a pair is merged: they are linked, and the word has the new piece in the place of the two.
-use Rattle.dary_heap_pieces.proofs.Common.{◌≡◌, ◌≢◌, ℕ, zero, suc, ◌<◌, List, [], ◌∷◌, ◌++◌, length, take, drop, slice_set, Some, None, is_some, inl, inr, refl, sym, ap, ◌∙◌, subst, arith, get_or, length-set, get_or-set_same, get_or-set_other, cases_lt, cases_eq, map-set_same, drop-set-lt, take-set-le, gone, link, word_of, IsLive, IsLinked, left_joined, right_gone, joined, Link}
+use Rattle.dary_heap_pieces.proofs.Common.{◌≡◌, ◌≢◌, ℕ, zero, suc, ◌<◌, List, [], ◌∷◌, ◌++◌, length, take, drop, slice_set, Some, None, is_some, inl, inr, refl, sym, ap, ◌∙◌, subst, arith, get_or}
+use Rattle.dary_heap_pieces.proofs.Common.{length-set, get_or-set_same, get_or-set_other, cases_lt, cases_eq, map-set_same, drop-set-lt, take-set-le, gone, link, word_of, IsLive, IsLinked}
+use Rattle.dary_heap_pieces.proofs.Common.{left_joined, right_gone, joined, Link}
 use Rattle.std.proofs.Math.ListN.{get_or-map}
 use Rattle.dary_heap_pieces.proofs.Words.{piece_at, next_at, word_of-split, word_of-between, word_of-set_same}
 
@@ -85,7 +87,13 @@ module _ (links : List Link) (linked : IsLinked links) (p v : ℕ) (live : IsLiv
   next_other q e f = new_next q ∙ ap (λ (l : Link). l.next) (two_other q f) ∙ ap (λ (l : Link). l.next) (one_other q e)
 
   previous_after : a < length links → (link new a).previous ≡ p
-  previous_after within = ap (λ (l : Link). l.previous) (get_or-set_same two a _ gone (omega (arith, within, length-set one r (record { piece = None; previous = (link one r).previous; next = (link one r).next }), length-set links p (record { piece = Some v; previous = (link links p).previous; next = a }))))
+  previous_after within = ap (λ (l : Link). l.previous)
+      (get_or-set_same two a _ gone (omega (
+        arith,
+        within,
+        length-set one r (record { piece = None; previous = (link one r).previous; next = (link one r).next }),
+        length-set links p (record { piece = Some v; previous = (link links p).previous; next = a }),
+      )))
 
   previous_other : (q : ℕ) → q ≢ r → q ≢ a → (link new q).previous ≡ (link links q).previous
   previous_other q f g =
@@ -203,5 +211,6 @@ module _ (links : List Link) (linked : IsLinked links) (p v : ℕ) (live : IsLiv
   word-joined =
       let split = word_of-split new p v piece_here in
       let front : take p new ≡ take p links = take-set-le p two a _ (omega (arith, up, up_r)) ∙ take-set-le p one r _ (omega (arith, up)) ∙ take-set-le p links p _ (omega arith) in
-      let gap : word_of (drop (suc p) new) ≡ word_of (drop (suc r) new) = word_of-between new (suc p) (suc r) (omega (arith, up)) (λ q low high. new_between p q (ap is_some piece_here) (omega (arith, low)) (omega (arith, high, next_here, up_r))) in
+      let gap : word_of (drop (suc p) new) ≡ word_of (drop (suc r) new) =
+      word_of-between new (suc p) (suc r) (omega (arith, up)) (λ q low high. new_between p q (ap is_some piece_here) (omega (arith, low)) (omega (arith, high, next_here, up_r))) in
       split ∙ ap (λ (xs : List Link). word_of xs ++ v ∷ word_of (drop (suc p) new)) front ∙ ap (λ (ys : List ℕ). word_of (take p links) ++ v ∷ ys) (gap ∙ back_word)

@@ -1,5 +1,6 @@
 -- Links of a whole word.
-use Rattle.dary_heap_pieces.proofs.Common.{◌≡◌, ℕ, ◌+◌, ◌%◌, ◌^◌, ◌<◌, true, List, [], ◌∷◌, ◌++◌, length, Some, is_some, inl, inr, refl, sym, ap, ◌∙◌, subst, arith, get_or-append_seam, cases_lt, get_or_append_left, length_push, filter_map-append, gone, link, word_of, IsLive, Link}
+use Rattle.dary_heap_pieces.proofs.Common.{◌≡◌, ℕ, ◌+◌, ◌%◌, ◌^◌, ◌<◌, true, List, [], ◌∷◌, ◌++◌, length, Some, is_some, inl, inr, refl, sym, ap, ◌∙◌, subst, arith, get_or-append_seam, cases_lt}
+use Rattle.dary_heap_pieces.proofs.Common.{get_or_append_left, length_push, filter_map-append, gone, link, word_of, IsLive, Link}
 
 -- the links hold these pieces, each in its place
 pub record IsWhole (links : List Link) (pieces : List ℕ) : Type 0 where
@@ -9,7 +10,8 @@ pub record IsWhole (links : List Link) (pieces : List ℕ) : Type 0 where
   pub next : (p : ℕ) → p < length links → (link links p).next ≡ p + 1
   pub previous : (p : ℕ) → 0 < p → p < length links → (link links p).previous + 1 ≡ p
 
-module _ (links : List Link) (pieces : List ℕ) (whole : IsWhole links pieces) (l : Link) (piece : ℕ) (is : l.piece ≡ Some piece) (next : l.next ≡ length links + 1) (previous : 0 < length links → l.previous + 1 ≡ length links) where
+module _ (links : List Link) (pieces : List ℕ) (whole : IsWhole links pieces) (l : Link) (piece : ℕ) (is : l.piece ≡ Some piece) (next : l.next ≡ length links + 1)
+    (previous : 0 < length links → l.previous + 1 ≡ length links) where
   abbrev more : List Link
   more = links ++ l ∷ []
 

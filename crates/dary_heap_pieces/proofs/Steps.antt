@@ -1,5 +1,8 @@
 -- A candidate that is first: if its pair still has its rank, merging it is a step, and else no pair needs it.
-use Rattle.dary_heap_pieces.proofs.Common.{◌≡◌, ◌≢◌, ◌⊎◌, ℕ, zero, suc, ◌+◌, ◌<◌, ◌≤◌, List, [], ◌∷◌, ◌++◌, length, take, drop, slice_get, Contains, Option, Some, None, is_some, inl, inr, refl, sym, ap, ◌∙◌, subst, arith, length-append, take-append_seam, drop-append-add, drop_all, cases_lt, cases_eq, Contains-cases, came_later, nat_le_from_first, nat_le_from_cmp, IsPermutation-sym, Contains-permutation, link, word_of, IsLive, IsLinked, merge_of, standing, joined, candidate, IsOffered, IsFirst, IsMergeAt, IsStep, LeadsTo, IsMerged, Link, Merge}
+use Rattle.dary_heap_pieces.proofs.Common.{◌≡◌, ◌≢◌, ◌⊎◌, ℕ, zero, suc, ◌+◌, ◌<◌, ◌≤◌, List, [], ◌∷◌, ◌++◌, length, take, drop, slice_get, Contains, Option, Some, None, is_some, inl, inr, refl, sym}
+use Rattle.dary_heap_pieces.proofs.Common.{ap, ◌∙◌, subst, arith, length-append, take-append_seam, drop-append-add, drop_all, cases_lt, cases_eq, Contains-cases, came_later, nat_le_from_first}
+use Rattle.dary_heap_pieces.proofs.Common.{nat_le_from_cmp, IsPermutation-sym, Contains-permutation, link, word_of, IsLive, IsLinked, merge_of, standing, joined, candidate, IsOffered, IsFirst}
+use Rattle.dary_heap_pieces.proofs.Common.{IsMergeAt, IsStep, LeadsTo, IsMerged, Link, Merge}
 use Rattle.std.specs.Cmp.{nat_cmp_is}
 use Rattle.std.specs.Ordering.{nat_cmp, ordering_then}
 use Rattle.std.specs.declared.cmp.Ordering.{Ordering}
@@ -50,10 +53,13 @@ pub record IsMergedAt (table : ℕ → ℕ → Option Merge) (links : List Link)
   pub step : IsStep table (word_of links) (word_of new)
   pub one_less : length (word_of new) + 1 ≡ length (word_of links)
   pub some_left : 0 < length (word_of new)
-  pub offered : (items' : List (Reverse (ℕ × ℕ))) → ((c : Reverse (ℕ × ℕ)) → Contains items c → Contains items' c) → ((m : Merge) → standing table new place ≡ Some m → Contains items' (candidate m.rank place)) → ((m : Merge) → standing table new (link new place).previous ≡ Some m → Contains items' (candidate m.rank (link new place).previous)) → IsOffered table new items'
+  pub offered : (items' : List (Reverse (ℕ × ℕ))) → ((c : Reverse (ℕ × ℕ)) → Contains items c → Contains items' c) →
+      ((m : Merge) → standing table new place ≡ Some m → Contains items' (candidate m.rank place)) →
+      ((m : Merge) → standing table new (link new place).previous ≡ Some m → Contains items' (candidate m.rank (link new place).previous)) → IsOffered table new items'
 
 module _ (table : ℕ → ℕ → Option Merge) (links : List Link) (linked : IsLinked links) where
-  word_is : (place : ℕ) (merge : Merge) (h : HasMerge table (piece_at links place) (piece_at links (next_at links place)) merge) → word_of links ≡ word_of (take place links) ++ h.x ∷ h.y ∷ word_of (drop (suc (next_at links place)) links)
+  word_is : (place : ℕ) (merge : Merge) (h : HasMerge table (piece_at links place) (piece_at links (next_at links place)) merge) →
+      word_of links ≡ word_of (take place links) ++ h.x ∷ h.y ∷ word_of (drop (suc (next_at links place)) links)
   word_is place merge h =
       word_of-split links place h.x h.first
       ∙ ap (λ (ys : List ℕ). word_of (take place links) ++ h.x ∷ ys) (behind_piece links linked place h.x h.first h.y h.second)
@@ -167,7 +173,13 @@ module _ (table : ℕ → ℕ → Option Merge) (links : List Link) (linked : Is
       one_less =
           let front = word_of (take place links) in
           let back = word_of (drop (suc (next_at links place)) links) in
-          omega (arith, ap length (word-joined links linked place merge.piece live_left within_right), ap length (word_is place merge pair), length-append front (merge.piece ∷ back), length-append front (pair.x ∷ pair.y ∷ back))
+          omega (
+            arith,
+            ap length (word-joined links linked place merge.piece live_left within_right),
+            ap length (word_is place merge pair),
+            length-append front (merge.piece ∷ back),
+            length-append front (pair.x ∷ pair.y ∷ back),
+          )
 
       some_left : 0 < length (word_of new)
       some_left =
@@ -192,7 +204,9 @@ module _ (table : ℕ → ℕ → Option Merge) (links : List Link) (linked : Is
           ]
 
       -- once the two pairs of the new piece are offered, each pair is
-      IsOffered-joined : (items' : List (Reverse (ℕ × ℕ))) → ((c : Reverse (ℕ × ℕ)) → Contains items c → Contains items' c) → ((m : Merge) → standing table new place ≡ Some m → Contains items' (candidate m.rank place)) → ((m : Merge) → standing table new (link new place).previous ≡ Some m → Contains items' (candidate m.rank (link new place).previous)) → IsOffered table new items'
+      IsOffered-joined : (items' : List (Reverse (ℕ × ℕ))) → ((c : Reverse (ℕ × ℕ)) → Contains items c → Contains items' c) →
+          ((m : Merge) → standing table new place ≡ Some m → Contains items' (candidate m.rank place)) →
+          ((m : Merge) → standing table new (link new place).previous ≡ Some m → Contains items' (candidate m.rank (link new place).previous)) → IsOffered table new items'
       IsOffered-joined items' kept here back = record {
         each = λ q m stands.
             let h = has_merge table (piece_at new q) (piece_at new (next_at new q)) m stands in
@@ -246,9 +260,11 @@ LeadsTo-then table (suc steps) more word mid last leads later =
 equal_then : (a b : ℕ) (o : Ordering) → a ≡ b → ordering_then (nat_cmp a b) o ≡ o
 equal_then a b o e = ap (λ (r : Ordering). ordering_then r o) (sym (nat_cmp_is a b Equal e))
 
-pub IsFirst-popped : (items left : List (Reverse (ℕ × ℕ))) (rank place : ℕ) → IsGreatest (λ x y. ordering_then (nat_cmp y.0.0 x.0.0) (nat_cmp y.0.1 x.0.1)) items (candidate rank place) → IsSameBag items (candidate rank place ∷ left) → IsFirst rank place left
+pub IsFirst-popped : (items left : List (Reverse (ℕ × ℕ))) (rank place : ℕ) → IsGreatest (λ x y. ordering_then (nat_cmp y.0.0 x.0.0) (nat_cmp y.0.1 x.0.1)) items (candidate rank place) →
+    IsSameBag items (candidate rank place ∷ left) → IsFirst rank place left
 IsFirst-popped items left rank place greatest bag =
-    let was : (c : Reverse (ℕ × ℕ)) → Contains left c → Contains items c = λ c there. came_later (candidate rank place) left items c (IsPermutation-sym items (candidate rank place ∷ left) bag) there in
+    let was : (c : Reverse (ℕ × ℕ)) → Contains left c → Contains items c =
+    λ c there. came_later (candidate rank place) left items c (IsPermutation-sym items (candidate rank place ∷ left) bag) there in
     record {
       least = λ r p there. nat_le_from_first rank r (nat_cmp place p) (greatest.none_above (candidate r p) (was (candidate r p) there));
       leftmost = λ r p there same. nat_le_from_cmp place p (λ e. greatest.none_above (candidate r p) (was (candidate r p) there) (equal_then rank r (nat_cmp place p) (sym same) ∙ e));
@@ -283,7 +299,8 @@ IsStep-same table word a b h k =
 no_step : (table : ℕ → ℕ → Option Merge) (word last next : List ℕ) → word ≡ last → ((place : ℕ) (merge : Merge) → ¬ (IsMergeAt table last place merge)) → IsStep table word next → {X : Type 0} → X
 no_step table word last next same none step = absurd (none step.place step.merge (subst (λ (w : List ℕ). IsMergeAt table w step.place step.merge) same step.stands))
 
-LeadsTo-same : (table : ℕ → ℕ → Option Merge) (m n : ℕ) (word a b : List ℕ) → LeadsTo table m word a → LeadsTo table n word b → ((place : ℕ) (merge : Merge) → ¬ (IsMergeAt table a place merge)) → ((place : ℕ) (merge : Merge) → ¬ (IsMergeAt table b place merge)) → a ≡ b
+LeadsTo-same : (table : ℕ → ℕ → Option Merge) (m n : ℕ) (word a b : List ℕ) → LeadsTo table m word a → LeadsTo table n word b → ((place : ℕ) (merge : Merge) → ¬ (IsMergeAt table a place merge)) →
+    ((place : ℕ) (merge : Merge) → ¬ (IsMergeAt table b place merge)) → a ≡ b
 LeadsTo-same table zero zero word a b h k none_a none_b = sym h ∙ k
 LeadsTo-same table zero (suc n) word a b h k none_a none_b = no_step table word a k.0 h none_a k.1
 LeadsTo-same table (suc m) zero word a b h k none_a none_b = no_step table word b h.0 k none_b h.1

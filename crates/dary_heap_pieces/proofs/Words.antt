@@ -1,5 +1,6 @@
 -- The word of links: where its pieces stand.
-use Rattle.dary_heap_pieces.proofs.Common.{◌≡◌, ℕ, zero, suc, ◌+◌, ◌-◌, ◌<◌, ◌≤◌, List, [], ◌∷◌, ◌++◌, length, take, drop, slice_get, slice_set, Option, Some, None, refl, sym, ap, ◌∙◌, arith, length-append, take-add, drop-drop, get_or-drop, take-append-drop, take_more, filter_map-append, gone, link, word_of, IsLive, IsLinked, Link}
+use Rattle.dary_heap_pieces.proofs.Common.{◌≡◌, ℕ, zero, suc, ◌+◌, ◌-◌, ◌<◌, ◌≤◌, List, [], ◌∷◌, ◌++◌, length, take, drop, slice_get, slice_set, Option, Some, None, refl, sym, ap, ◌∙◌, arith}
+use Rattle.dary_heap_pieces.proofs.Common.{length-append, take-add, drop-drop, get_or-drop, take-append-drop, take_more, filter_map-append, gone, link, word_of, IsLive, IsLinked, Link}
 use Rattle.std.specs.List.{cons_option}
 
 abbrev pub piece_at : List Link → ℕ → Option ℕ
@@ -53,7 +54,8 @@ pub record StandsAt (links : List Link) (i x : ℕ) : Type 0 where
   pub piece : piece_at links place ≡ Some x
   pub before : position links place ≡ i
 
-stands_at_by : (l : Link) (links : List Link) (o : Option ℕ) (i x : ℕ) → l.piece ≡ o → slice_get (cons_option o (word_of links)) i ≡ Some x → ((j : ℕ) → slice_get (word_of links) j ≡ Some x → StandsAt links j x) → StandsAt (l ∷ links) i x
+stands_at_by : (l : Link) (links : List Link) (o : Option ℕ) (i x : ℕ) → l.piece ≡ o → slice_get (cons_option o (word_of links)) i ≡ Some x →
+    ((j : ℕ) → slice_get (word_of links) j ≡ Some x → StandsAt links j x) → StandsAt (l ∷ links) i x
 stands_at_by l links None i x is at rest =
     let later = rest i at in
     record { place = suc later.place; piece = later.piece; before = rw is later.before }
@@ -78,7 +80,8 @@ module _ (links : List Link) (linked : IsLinked links) (place x : ℕ) (is : pie
 
   -- what stands behind a piece begins at the place that it is linked with
   pub behind : word_of (drop (suc place) links) ≡ word_of (drop (next_at links place) links)
-  behind = let up = linked.forward place live_from in word_of-between links (suc place) (next_at links place) (omega (arith, up)) (λ q low high. linked.none_between place q live_from (omega (arith, low)) high)
+  behind = let up = linked.forward place live_from in
+      word_of-between links (suc place) (next_at links place) (omega (arith, up)) (λ q low high. linked.none_between place q live_from (omega (arith, low)) high)
 
   pub behind_piece : (y : ℕ) → piece_at links (next_at links place) ≡ Some y → word_of (drop (suc place) links) ≡ y ∷ word_of (drop (suc (next_at links place)) links)
   behind_piece y next = behind ∙ word_of-at links (next_at links place) y next

@@ -1,5 +1,6 @@
 //! Callers that are proved, since their proofs show that the contracts of the priority queue serve a caller:
-//! calls of functions that have a precondition, at concrete types, and a judge and a handler of the caller's own.
+//! calls of functions that have a precondition, at concrete types, a judge and a handler of the caller's own, and a
+//! call of each function of `indexed_heap`.
 //!
 //! All other tests are run and not proved, and stand in the folder `trials`: of them a proof says only that
 //! they are safe.
@@ -8,6 +9,8 @@
 //! and never from this crate's own answers.
 #![tactic(auto)]
 
+#[cfg(test)]
+mod keyed;
 #[cfg(test)]
 mod preconditions;
 #[cfg(test)]

@@ -1,13 +1,13 @@
-//! Calls of public functions that have a precondition, at concrete types, and a judge of the caller's own. The
-//! call of `shortest_path` is in `roads` of `dary_heap_uses`.
+//! Calls of public functions that have a precondition, at concrete types, and a judge of the caller's own. Those
+//! of the searches are in `uses`.
 ghost use Rattle.std.specs.Cmp.{back_total, int_cmp_total};
 ghost use Rattle.std.specs.Ordering.{int_cmp};
 
 use crate::{Host, Tested};
 use dary_heap::run::{Command, run};
 use dary_heap::sift::{
-    Judge, Tally, build_with, fix_with, mend_with, pop_with, push_with, remove_with,
-    replace_first_with,
+    Judge, Tally, build_with, fix_with, mend_with, pop_to_end_with, pop_with, push_with,
+    remove_with,
 };
 use dary_heap::{BinaryHeap, OctonaryHeap, TernaryHeap};
 use dary_heap_uses::greatest::greatest;
@@ -152,22 +152,22 @@ fn a_run_gives_a_reply_to_each_command(rt: HostRuntime) -> Tested {
     Ok(())
 }
 
-// The slice has an item.
+// Of fewer than two items none moves.
 #[test]
-fn the_first_item_is_replaced(rt: HostRuntime) -> Tested {
-    let cases: [(i32, [i32; 5], u64); 3] = [
-        (0, [4, 3, 0, 1, 2], 2),
-        (9, [9, 3, 4, 1, 2], 2),
-        (4, [4, 3, 4, 1, 2], 2),
-    ];
-    for (item, after, made) in cases {
-        let mut items = [5, 3, 4, 1, 2];
-        let mut judge = Tally::new();
-        let first = replace_first_with::<i32, Tally, 2>(&mut items, item, &mut judge);
-        assert_eq!(rt; first, 5);
-        assert_eq!(rt; items, after, "{item}");
-        assert_eq!(rt; judge.made(), made, "{item}");
-    }
+fn the_first_item_goes_to_the_end(rt: HostRuntime) -> Tested {
+    let mut items = [5, 3, 4, 1, 2];
+    let mut judge = Tally::new();
+    pop_to_end_with::<i32, Tally, 2>(&mut items, &mut judge);
+    assert_eq!(rt; items, [4, 3, 2, 1, 5]);
+    assert_eq!(rt; judge.made(), 2);
+    items[0] = 0;
+    pop_to_end_with::<i32, Tally, 2>(&mut items[..4], &mut judge);
+    assert_eq!(rt; items, [3, 1, 2, 0, 5]);
+    assert_eq!(rt; judge.made(), 4);
+    pop_to_end_with::<i32, Tally, 2>(&mut items[..1], &mut judge);
+    pop_to_end_with::<i32, Tally, 2>(&mut items[..0], &mut judge);
+    assert_eq!(rt; items, [3, 1, 2, 0, 5]);
+    assert_eq!(rt; judge.made(), 4);
     Ok(())
 }
 
@@ -183,6 +183,20 @@ fn an_item_is_changed_and_moved_to_the_end(rt: HostRuntime) -> Tested {
     remove_with::<i32, Tally, 2>(&mut items, 0, &mut judge);
     assert_eq!(rt; items, [7, 2, 0, 1, 9]);
     assert_eq!(rt; judge.made(), 5);
+    Ok(())
+}
+
+// The place is found, or tested to be below the length.
+#[test]
+fn an_item_of_a_heap_is_removed_and_replaced_at_its_place(rt: HostRuntime) -> Tested {
+    let mut heap = BinaryHeap::from([9, 5, 7, 1, 2].to_vec(rt.alloc())?);
+    if let Some(place) = heap.as_slice().iter().position(|item| *item == 7) {
+        assert_eq!(rt; heap.remove_at(place), 7);
+    }
+    assert_eq!(rt; heap.as_slice(), [9, 5, 2, 1].as_slice());
+    assert!(rt; 3 < heap.len());
+    assert_eq!(rt; heap.replace_at(3, 6), 1);
+    assert_eq!(rt; heap.as_slice(), [9, 6, 2, 5].as_slice());
     Ok(())
 }
 

@@ -3,12 +3,15 @@
 ghost use Rattle.std.specs.Prelude.{IfOk, IsSorted};
 
 use crate::{Host, Tested};
-use dary_heap::shortest_path::PathRefusal;
+use dary_heap::shortest_path::{Edge, PathRefusal, shortest_path};
+use dary_heap::sift::{ByOrd, LeastFirst};
 use dary_heap_uses::merge::merge;
-use dary_heap_uses::roads::{Road, is_joining, shortest_route};
+use dary_heap_uses::roads::{
+    CostHeap, is_graph, shortest_path_by_lowering, shortest_path_by_lowering_within,
+};
 use dary_heap_uses::scheduler::Scheduler;
-use dary_heap_uses::simulation::{Handler, Simulation};
-use dary_heap_uses::timers::Timer;
+use dary_heap_uses::simulation::{Change, Handler, run};
+use dary_heap_uses::timers::TimerQueue;
 use std::alloc::{AllocError, Global};
 use std::process::Abort;
 
@@ -64,92 +67,103 @@ fn ties_come_in_the_order_of_the_lists(rt: HostRuntime) -> Tested {
     Ok(())
 }
 
-/// The shortest route between two of four places, along roads that it may be asked about.
-fn route(
+/// Compares what the three searches return.
+fn finds(
     rt: &impl Host,
-    roads: &[Road],
+    graph: &Vec<Vec<Edge>>,
     start: usize,
-    end: usize,
-) -> Result<Option<usize>, PathRefusal> {
-    assert!(rt; is_joining(4, roads));
-    assert!(rt; start < 4);
-    shortest_route(rt.alloc(), 4, roads, start, end)
-}
-
-#[test]
-fn a_detour_is_shorter(rt: HostRuntime) -> Tested {
-    let road = |start, end, miles| Road { start, end, miles };
-    let roads = [road(0, 1, 7), road(0, 2, 1), road(2, 1, 3), road(1, 3, 2)];
-    assert_eq!(rt; route(&rt, &roads, 0, 3), Ok(Some(6)));
-    assert_eq!(rt; route(&rt, &roads, 2, 1), Ok(Some(3)));
-    assert_eq!(rt; route(&rt, &roads, 3, 0), Ok(None));
-    let far = [road(0, 1, usize::MAX)];
-    let refused = Err(PathRefusal::CostTooLarge);
-    assert_eq!(rt; route(&rt, &far, 0, 1), refused);
+    goal: usize,
+    answer: Result<Option<usize>, PathRefusal>,
+) -> Tested {
+    let alloc = rt.alloc();
+    assert!(rt; is_graph(graph));
+    assert!(rt; start < graph.len());
+    assert_eq!(rt; shortest_path(alloc, graph, start, goal), answer);
+    assert_eq!(rt;
+        shortest_path_by_lowering(alloc, graph, start, goal),
+        answer
+    );
+    let nodes = graph.len();
+    let mut found = vec![in alloc; 0; nodes]?;
+    let mut heap = CostHeap::<2>::with_judge(alloc, LeastFirst(ByOrd::new()));
+    heap.reserve(nodes, nodes)?;
+    let kept = shortest_path_by_lowering_within(graph, start, goal, &mut found, &mut heap);
+    assert_eq!(rt; kept.ok(), answer.ok());
     Ok(())
 }
 
-/// Adds a job, if not too many came yet.
-fn add(
+#[test]
+fn a_detour_is_cheaper(rt: HostRuntime) -> Tested {
+    let alloc = rt.alloc();
+    let edge = |node, cost| Edge { node, cost };
+    let from_0 = vec![in alloc; edge(1, 7), edge(2, 1)]?;
+    let from_1 = vec![in alloc; edge(3, 2)]?;
+    let from_2 = vec![in alloc; edge(1, 3)]?;
+    let from_3 = vec![in alloc; edge(2, usize::MAX)]?;
+    let graph = vec![in alloc; from_0, from_1, from_2, from_3, Vec::new(alloc)]?;
+    finds(&rt, &graph, 0, 3, Ok(Some(6)))?;
+    finds(&rt, &graph, 2, 1, Ok(Some(3)))?;
+    finds(&rt, &graph, 1, 1, Ok(Some(0)))?;
+    finds(&rt, &graph, 4, 0, Ok(None))?;
+    finds(&rt, &graph, 1, 0, Err(PathRefusal::CostTooLarge))
+}
+
+/// Submits a job, if not too many came yet.
+fn submit(
     rt: &impl Abort,
     scheduler: &mut Scheduler<&'static str>,
+    id: usize,
     priority: u32,
     job: &'static str,
-) -> Result<(), &'static str> {
+) -> bool {
     assert!(rt; scheduler.came() < u64::MAX);
-    scheduler.add(priority, job)
+    scheduler.submit(id, priority, job).is_ok()
 }
 
 #[test]
 fn equal_priorities_come_in_their_order(rt: HostRuntime) -> Tested {
-    let mut scheduler = Scheduler::with_room(rt.alloc(), 5)?;
+    let mut scheduler = Scheduler::new(rt.alloc());
+    scheduler.reserve(5, 5)?;
     let jobs = ["write", "cook", "sweep", "eat", "read"];
-    for (priority, job) in [2, 7, 2, 7, 2].into_iter().zip(jobs) {
-        assert_eq!(rt; add(&rt, &mut scheduler, priority, job), Ok(()));
+    for (id, (priority, job)) in [2, 7, 2, 7, 2].into_iter().zip(jobs).enumerate() {
+        assert!(rt; submit(&rt, &mut scheduler, id, priority, job));
     }
-    for job in ["cook", "eat", "write", "sweep", "read"] {
-        assert_eq!(rt; scheduler.take(), Some(job));
+    assert!(rt; scheduler.reprioritise(4, 7));
+    assert!(rt; scheduler.cancel(2).is_some_and(|it| it.job == "sweep"));
+    for job in ["cook", "eat", "read", "write"] {
+        assert!(rt; scheduler.next().is_some_and(|(_, it)| it.job == job));
     }
-    assert_eq!(rt; scheduler.take(), None);
+    assert_eq!(rt; (scheduler.len(), scheduler.came()), (0, 5));
     Ok(())
 }
 
-#[test]
-fn a_job_past_the_room_comes_back(rt: HostRuntime) -> Tested {
-    let mut scheduler = Scheduler::with_room(rt.alloc(), 2)?;
-    assert!(rt; scheduler.is_empty());
-    assert_eq!(rt; add(&rt, &mut scheduler, 1, "sweep"), Ok(()));
-    assert_eq!(rt; add(&rt, &mut scheduler, 5, "cook"), Ok(()));
-    assert_eq!(rt; add(&rt, &mut scheduler, 9, "sing"), Err("sing"));
-    assert_eq!(rt; (scheduler.len(), scheduler.came()), (2, 2));
-    assert_eq!(rt; scheduler.take(), Some("cook"));
-    assert_eq!(rt; add(&rt, &mut scheduler, 1, "sing"), Ok(()));
-    assert_eq!(rt; scheduler.take(), Some("sweep"));
-    assert_eq!(rt; scheduler.take(), Some("sing"));
-    Ok(())
-}
-
-/// Balls that bounce. The name of an event is the height of a bounce: the next one comes as many moments
-/// later, and is half as high.
+/// Two balls that bounce, and how high each comes. Its next bounce is as many moments later, and half as high. When
+/// the first lies, it has the second caught.
 #[derive(Drop)]
 struct Balls {
     alloc: Global,
-    heights: Vec<u32>,
+    heights: [u64; 2],
+    bounces: Vec<(usize, u64)>,
 }
 
 impl Handler for Balls {
-    ghost handles = { λ before event scheduled after. Unit {0} };
+    ghost handles = { λ before event changes after. Unit {0} };
 
-    fn handle(&mut self, event: Timer) -> Vec<Timer> {
-        let _ = self.heights.push(event.name);
-        let mut scheduled = Vec::new(self.alloc);
-        if event.name > 0 {
-            let _ = scheduled.push(Timer {
-                moment: event.moment.saturating_add(u64::from(event.name)),
-                name: event.name / 2,
-            });
+    fn handle(&mut self, name: usize, moment: u64) -> Vec<Change> {
+        let _ = self.bounces.push((name, moment));
+        let mut changes = Vec::new(self.alloc);
+        let height = if name == 0 {
+            self.heights[0]
+        } else {
+            self.heights[1]
+        };
+        if height > 0 {
+            self.heights[if name == 0 { 0 } else { 1 }] = height / 2;
+            let _ = changes.push(Change::Schedule(name, moment.saturating_add(height)));
+        } else {
+            let _ = changes.push(Change::Revoke(1));
         }
-        scheduled
+        changes
     }
 }
 
@@ -157,23 +171,21 @@ impl Handler for Balls {
 fn balls_bounce_in_the_order_of_moments(rt: HostRuntime) -> Tested {
     let mut balls = Balls {
         alloc: rt.alloc(),
-        heights: Vec::new(rt.alloc()),
+        heights: [8, 20],
+        bounces: Vec::new(rt.alloc()),
     };
-    let mut simulation = Simulation::new(rt.alloc());
-    simulation.reserve(2)?;
-    simulation.schedule(Timer { moment: 3, name: 5 })?;
-    simulation.schedule(Timer { moment: 0, name: 8 })?;
-    // Bounces at 0 and 3, and two at 8.
-    assert_eq!(rt; simulation.run(&mut balls, 9, 100), Ok(4));
-    assert_eq!(rt; simulation.moment(), 8);
-    // Bounces at 10 and 11, and no budget for more.
-    assert_eq!(rt; simulation.run(&mut balls, 100, 2), Ok(2));
-    assert_eq!(rt; simulation.moment(), 11);
-    // Bounces at 12, 14 and 15.
-    assert_eq!(rt; simulation.run(&mut balls, 100, 100), Ok(3));
-    assert_eq!(rt; simulation.moment(), 15);
-    let heights = [8, 5, 2, 4, 1, 0, 2, 1, 0];
-    assert_eq!(rt; balls.heights.as_slice(), heights.as_slice());
-    assert_eq!(rt; simulation.run(&mut balls, 100, 100), Ok(0));
+    let mut events = TimerQueue::<3>::new(rt.alloc());
+    events.set(0, 0)?;
+    events.set(1, 3)?;
+    // Bounces at 0, 3 and 8.
+    assert_eq!(rt; run(&mut events, &mut balls, 9, 100).ok(), Some(3));
+    // Bounces at 12 and 14, and no budget for more.
+    assert_eq!(rt; run(&mut events, &mut balls, 100, 2).ok(), Some(2));
+    assert_eq!(rt; events.moment_of(1), Some(23));
+    // The first lies at 15, and the second is caught.
+    assert_eq!(rt; run(&mut events, &mut balls, 100, 100).ok(), Some(1));
+    assert_eq!(rt; events.len(), 0);
+    let bounces = [(0, 0), (1, 3), (0, 8), (0, 12), (0, 14), (0, 15)];
+    assert_eq!(rt; balls.bounces.as_slice(), bounces.as_slice());
     Ok(())
 }

@@ -1,5 +1,8 @@
 -- What becomes of the k greatest once an item more came.
-use Rattle.dary_heap_uses.proofs.Common.{◌≡◌, ◌≢◌, ℕ, ◌+◌, ◌*◌, ◌<◌, ◌≤◌, min, List, [], ◌∷◌, ◌++◌, length, sym, subst, arith, inl, inr, length-append, IsPermutation-sym, IsPermutation-trans, IsPermutation-middle, IsPermutation-append_left, IsPermutation-push_more, length_permutation, IsTotalOrder, Ordering, Greater, IsSameBag, IsGreatest, RisesWithin, push_bound, pop_bound, came_later, IsPermutation-uncons, Contains-permutation, sink_bound, zero, suc, not_greater-trans, Contains-cases, depth-parent, KeepsGreatest}
+use Rattle.dary_heap_uses.proofs.Common.{◌≡◌, ◌≢◌, ℕ, ◌+◌, ◌*◌, ◌<◌, ◌≤◌, min, List, [], ◌∷◌, ◌++◌, length, sym, subst, arith, inl, inr, length-append, IsPermutation-sym, IsPermutation-trans}
+use Rattle.dary_heap_uses.proofs.Common.{IsPermutation-middle, IsPermutation-append_left, IsPermutation-push_more, length_permutation, IsTotalOrder, Ordering, Greater, IsSameBag, IsGreatest}
+use Rattle.dary_heap_uses.proofs.Common.{RisesWithin, push_bound, pop_bound, came_later, IsPermutation-uncons, Contains-permutation, sink_bound, zero, suc, not_greater-trans, Contains-cases}
+use Rattle.dary_heap_uses.proofs.Common.{depth-parent, KeepsGreatest}
 
 module _ {X : Type 0} {cmp : X → X → Ordering} (total : IsTotalOrder cmp) (k : ℕ) (items : List X) where
   -- there was room for it
@@ -18,16 +21,19 @@ module _ {X : Type 0} {cmp : X → X → Ordering} (total : IsTotalOrder cmp) (k
       }
 
   -- of those that were kept and this one, a least was left out
-  pub least_out : (x out : X) (old new : List X) → KeepsGreatest cmp k items old → k ≤ length old → IsSameBag (x ∷ old) (out ∷ new) → IsGreatest (λ a b. cmp b a) (x ∷ old) out → KeepsGreatest cmp k (items ++ x ∷ []) new
+  pub least_out : (x out : X) (old new : List X) → KeepsGreatest cmp k items old → k ≤ length old → IsSameBag (x ∷ old) (out ∷ new) → IsGreatest (λ a b. cmp b a) (x ∷ old) out →
+      KeepsGreatest cmp k (items ++ x ∷ []) new
   least_out x out old new h full bag least =
       let count : length (out ∷ new) ≡ length (x ∷ old) = length_permutation (x ∷ old) (out ∷ new) bag in
       let few : length old ≡ min k (length items) = h.as_many in
       let more : length (items ++ x ∷ []) ≡ length items + 1 = length-append items (x ∷ []) in
       let back = IsPermutation-sym (x ∷ old) (out ∷ new) bag in
-      let behind : IsSameBag (out ∷ (new ++ h.left_out)) (new ++ out ∷ h.left_out) = IsPermutation-sym (new ++ out ∷ h.left_out) (out ∷ (new ++ h.left_out)) (IsPermutation-middle new out h.left_out) in
+      let behind : IsSameBag (out ∷ (new ++ h.left_out)) (new ++ out ∷ h.left_out) =
+      IsPermutation-sym (new ++ out ∷ h.left_out) (out ∷ (new ++ h.left_out)) (IsPermutation-middle new out h.left_out) in
       record {
         left_out = out ∷ h.left_out;
-        together = IsPermutation-push_more items (old ++ h.left_out) (new ++ out ∷ h.left_out) x h.together (IsPermutation-trans _ _ _ (IsPermutation-append_left h.left_out (x ∷ old) (out ∷ new) bag) behind);
+        together = IsPermutation-push_more items (old ++ h.left_out) (new ++ out ∷ h.left_out) x h.together
+            (IsPermutation-trans _ _ _ (IsPermutation-append_left h.left_out (x ∷ old) (out ∷ new) bag) behind);
         as_many = omega arith;
         none_greater = λ a y gone stays.
             let under : cmp out y ≢ Greater = least.none_above y (came_later out new (x ∷ old) y back stays) in

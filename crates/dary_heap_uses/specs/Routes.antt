@@ -1,54 +1,40 @@
--- Routes along roads.
-use Rattle.std.specs.Prelude.{◌≡◌, ◌≢◌, ℕ, ◌+◌, ◌<◌, ◌≤◌, List, [], ◌∷◌, length, Contains, All}
-use Rattle.dary_heap.specs.Walk.{Graph, IsWithin, HasEdge}
+-- What a search that lowers makes of the costs found so far and of the nodes that wait. A cost found is the limit if no walk was found. Public clauses speak of the room and of the bound alone.
+use Rattle.std.specs.Prelude.{◌≡◌, ℕ, ◌+◌, ◌*◌, ◌<◌, ◌≤◌, List, Option, length, slice_index_or, map, Contains}
+use Rattle.dary_heap.specs.Bounds.{pop_bound, push_bound}
 use Rattle.dary_heap.specs.declared.shortest_path.Edge.{Edge}
-use Rattle.dary_heap_uses.specs.declared.roads.Road.{Road}
+use Rattle.dary_heap.specs.declared.shortest_path.State.{State}
+use Rattle.dary_heap.specs.shortest_path.Searching.{Relaxes, state}
+use Rattle.indexed_heap.specs.Entries.{AreDistinct, Gets, Indexed}
 
--- each road joins two places below n
-abbrev pub IsJoining : ℕ → List Road → Type 0
-IsJoining n roads = All (λ road. (road.start < n) × (road.end < n)) roads
+-- the heap has the room that it had
+pub record HasSameRoom (old new : Indexed ℕ) : Type 0 where
+  pub capacity : new.capacity ≡ old.capacity
+  pub keys : new.keys ≡ old.keys
 
--- the route leads from u to v: each of its roads begins where the one before ended
-abbrev pub IsRoute : List Road → ℕ → List Road → ℕ → Type 0
-IsRoute roads u [] v = u ≡ v
-IsRoute roads u (road ∷ route) v = Contains roads road × (road.start ≡ u) × IsRoute roads road.end route v
+-- comparisons of so many raises among n nodes at most
+abbrev pub raises_bound : ℕ → ℕ → ℕ → ℕ
+raises_bound D n raises = raises * (push_bound D n + 1)
 
--- how long a route is
-abbrev pub miles_of : List Road → ℕ
-miles_of [] = 0
-miles_of (road ∷ route) = road.miles + miles_of route
+-- comparisons of a search among n nodes and so many edges: a raise for the start and for each edge, and a pop for each node
+abbrev pub search_bound : ℕ → ℕ → ℕ → ℕ
+search_bound D n edges = raises_bound D n (edges + 1) + n * pop_bound D n
 
--- some route from u to v is so long, and none is shorter
-pub record IsShortest (roads : List Road) (u v miles : ℕ) : Type 0 where
-  pub route : List Road
-  pub leads : IsRoute roads u route v
-  pub long : miles_of route ≡ miles
-  pub least : (other : List Road) → IsRoute roads u other v → miles ≤ miles_of other
+-- nodes that wait, each with a cost, in the words of the search that pushes states
+abbrev pub states : List (ℕ × ℕ) → List State
+states entries = map (λ entry. state entry.1 entry.0) entries
 
--- a place other than v, no further from u than v, has a road with which the miles from u on reach the limit
-pub record HasTooLong (limit : ℕ) (roads : List Road) (u v : ℕ) : Type 0 where
-  pub road : Road
-  pub miles : ℕ
-  pub stands : Contains roads road
-  pub other : road.start ≢ v
-  pub reached : IsShortest roads u road.start miles
-  pub too_long : limit ≤ miles + road.miles
-  pub at_most : (route : List Road) → IsRoute roads u route v → miles ≤ miles_of route
+-- the heap has room for each node, and what waits are nodes, none of them twice, each with the cost found for it
+pub record IsReady (limit : ℕ) (found : List ℕ) (heap : Indexed ℕ) : Type 0 where
+  pub room : length found ≤ heap.capacity
+  pub keyed : length found ≤ heap.keys
+  pub distinct : AreDistinct heap.entries
+  pub within : (e : ℕ × ℕ) → Contains heap.entries e → e.0 < length found
+  pub exact : (e : ℕ × ℕ) → Contains heap.entries e → slice_index_or found e.0 limit ≡ e.1
 
--- a road as an edge
-abbrev pub along : Road → Edge
-along road = record { node = road.end; cost = road.miles }
+-- the node waits with this cost, in place of the one that it waited with, if any
+abbrev pub Waits : ℕ → ℕ → List (ℕ × ℕ) → List (ℕ × ℕ) → Type 0
+Waits node cost old new = (given : Option ℕ) × Gets node cost old given new
 
--- the edge e is that of a road from u
-pub record IsRoad (roads : List Road) (u : ℕ) (e : Edge) : Type 0 where
-  pub road : Road
-  pub stands : Contains roads road
-  pub starts : road.start ≡ u
-  pub is : along road ≡ e
-
--- the edges of the graph, which has n nodes, are those of the roads
-pub record IsMap (n : ℕ) (roads : List Road) (g : Graph) : Type 0 where
-  pub long : length g ≡ n
-  pub within : IsWithin n g
-  pub roads_only : (u : ℕ) (e : Edge) → HasEdge g u e → IsRoad roads u e
-  pub all_roads : (road : Road) → Contains roads road → HasEdge g road.start (along road)
+-- the edges of a node that costs so much were examined: found and waiting before, lower and after then
+abbrev pub Lowers : ℕ → ℕ → List Edge → List ℕ → List (ℕ × ℕ) → List ℕ → List (ℕ × ℕ) → Type 0
+Lowers limit cost edges found waiting lower after = Relaxes limit cost edges found (states waiting) lower (states after)

@@ -1,49 +1,53 @@
--- Events that are handled in the order of their moments, and what handles them schedules further ones.
-use Rattle.std.specs.Prelude.{◌≡◌, ℕ, zero, suc, ◌+◌, ◌-◌, ◌≤◌, List, [], ◌∷◌, ◌++◌, length, map, All}
-use Rattle.std.specs.List.{FoldsTo}
+-- Events that are handled in the order of their moments, and what handles them changes further ones. An event is a timer.
+use Rattle.std.specs.Prelude.{◌⊎◌, ℕ, ◌<◌, ◌≤◌, List, ◌∷◌, Option, length, take}
+use Rattle.std.specs.List.{AllPairs, FoldsTo}
 use Rattle.dary_heap.specs.Bag.{IsSameBag}
-use Rattle.dary_heap.specs.Bounds.{RisesWithin, push_bound, pop_bound}
-use Rattle.dary_heap_uses.specs.declared.timers.Timer.{Timer}
+use Rattle.indexed_heap.specs.Entries.{Gets, Loses}
+use Rattle.dary_heap_uses.specs.Timers.{IsFirst, Timers}
+use Rattle.dary_heap_uses.specs.declared.simulation.Change.{Change}
+use Rattle.dary_heap_uses.specs.declared.simulation.Change.TheVariants.{Schedule, Revoke}
 
--- what a caller sees of a simulation: the present moment, the bag of the events that wait, how many there is room for, and how many comparisons were made so far
-pub record Agenda : Type 0 where
-  pub moment : ℕ
-  pub waiting : List Timer
-  pub room : ℕ
-  pub comparisons : ℕ
-
--- an event that was handled, and those that its handler scheduled
+-- an event that was handled, and the changes that its handler makes
 pub record Step : Type 0 where
-  pub event : Timer
-  pub scheduled : List Timer
+  pub event : ℕ × ℕ
+  pub changes : List Change
 
--- all that was scheduled in these steps
-abbrev pub scheduled_in : List Step → List Timer
-scheduled_in [] = []
-scheduled_in (step ∷ steps) = step.scheduled ++ scheduled_in steps
+-- a change that schedules nothing before the moment
+abbrev pub IsNotBefore : ℕ → Change → Type 0
+IsNotBefore now (Schedule name moment) = now ≤ moment
+IsNotBefore now (Revoke name) = Unit {0}
 
--- what it may cost to schedule so many events while n wait: a push for each
-abbrev pub pushes_bound : ℕ → ℕ → ℕ
-pushes_bound n zero = 0
-pushes_bound n (suc more) = push_bound 3 n + pushes_bound (n + 1) more
+-- the change took the events that wait from old to new
+abbrev pub IsMade : List (ℕ × ℕ) → Change → List (ℕ × ℕ) → Type 0
+IsMade old (Schedule name moment) new = (before : Option ℕ) × Gets name moment old before new
+IsMade old (Revoke name) new = (before : Option ℕ) × Loses name old before new
 
--- what these steps may cost while n events wait: for each a pop, and a push for each event that was scheduled
-abbrev pub steps_bound : ℕ → List Step → ℕ
-steps_bound n [] = 0
-steps_bound n (step ∷ steps) = pop_bound 3 n + pushes_bound (n - 1) (length step.scheduled) + steps_bound (n - 1 + length step.scheduled) steps
+-- a queue has no room for the change if these events wait
+abbrev pub Lacks : Timers → Change → List (ℕ × ℕ) → Type 0
+Lacks queue (Schedule name moment) waiting = (queue.room ≤ length waiting) ⊎ (queue.names ≤ name)
+Lacks queue (Revoke name) waiting = ⊥
 
--- from a moment on, the events of these steps come one after another up to the later moment, and none goes back
-abbrev pub NeverGoesBack : ℕ → List Step → ℕ → Type 0
-NeverGoesBack moment [] later = moment ≡ later
-NeverGoesBack moment (step ∷ steps) later = (moment ≤ step.event.moment) × NeverGoesBack step.event.moment steps later
+module _ {H : Type 0} (handles : H → ℕ × ℕ → List Change → H → Type 0) (end : ℕ) where
+  -- the first event, which isn't past the end, was taken and handled, and these of its changes were made. old and new are the events that wait, and the handler
+  pub record IsStep (made : List Change) (old : List (ℕ × ℕ) × H) (step : Step) (new : List (ℕ × ℕ) × H) : Type 0 where
+    pub left : List (ℕ × ℕ)
+    pub first : IsFirst old.0 step.event
+    pub up_to_end : step.event.1 ≤ end
+    pub taken : IsSameBag old.0 (step.event ∷ left)
+    pub handled : handles old.1 step.event step.changes new.1
+    pub changed : FoldsTo IsMade left made new.0
 
--- these steps led from one agenda to another, with these events refused
-pub record IsRun {H : Type 0} (handles : H → Timer → List Timer → H → Type 0) (end : ℕ) (old : Agenda) (first : H) (steps : List Step) (refused : List Timer) (new : Agenda) (last : H) : Type 0 where
-  -- each event was handed to the handler in turn, which scheduled these
-  pub handled : FoldsTo (λ handler step after. handles handler step.event step.scheduled after) first steps last
-  pub forward : NeverGoesBack old.moment steps new.moment
-  pub up_to_end : All (λ step. step.event.moment ≤ end) steps
-  -- each event that was scheduled was handled once, still waits or was refused
-  pub none_lost : IsSameBag (old.waiting ++ scheduled_in steps) (map (λ step. step.event) steps ++ (refused ++ new.waiting))
-  -- no more comparisons were made than these steps may cost
-  pub counted : RisesWithin old.comparisons new.comparisons (steps_bound (length old.waiting) steps)
+  -- these steps with all their changes led from old to new, and no moment is before an earlier step's
+  pub record IsRun (old : List (ℕ × ℕ) × H) (steps : List Step) (new : List (ℕ × ℕ) × H) : Type 0 where
+    pub each : FoldsTo (λ before step after. IsStep step.changes before step after) old steps new
+    pub forward : AllPairs (λ a b. a.event.1 ≤ b.event.1) steps
+
+  -- steps as the budget allows, and then one of whose changes only so many were made
+  pub record IsStopped (budget : ℕ) (old : List (ℕ × ℕ) × H) (changes : List Change) (made : ℕ) (new : List (ℕ × ℕ) × H) : Type 0 where
+    pub steps : List Step
+    pub mid : List (ℕ × ℕ) × H
+    pub event : ℕ × ℕ
+    pub allowed : length steps < budget
+    pub run : IsRun old steps mid
+    pub last : IsStep (take made changes) mid (record { event = event; changes = changes }) new
+    pub missing : made < length changes

@@ -1,29 +1,37 @@
--- Timers that are set for a moment, and taken once it has come.
-use Rattle.std.specs.Prelude.{◌≡◌, ℕ, ◌<◌, ◌≤◌, List, ◌++◌, All, Contains}
-use Rattle.std.specs.List.Sorted.{IsNonDecreasingBy}
+-- Timers that are set for a moment, and taken once it has come. A timer is a pair: its name, and its moment.
+use Rattle.std.specs.Prelude.{◌≡◌, ◌⊎◌, ℕ, ◌<◌, ◌≤◌, List, ◌++◌, All, Contains}
+use Rattle.std.specs.List.{AllPairs}
 use Rattle.dary_heap.specs.Bag.{IsSameBag}
-use Rattle.dary_heap_uses.specs.declared.timers.Timer.{Timer}
 
--- what a caller sees of a queue: the bag of the timers that are set, how many there is room for, and how many comparisons were made so far
+-- what a caller sees of a queue: the bag of the timers that are set, how many there is room for, below which number names need no room, and how many comparisons were made so far
 pub record Timers : Type 0 where
-  pub set : List Timer
+  pub set : List (ℕ × ℕ)
   pub room : ℕ
+  pub names : ℕ
   pub comparisons : ℕ
 
--- the timer is set, and none is set for an earlier moment
-pub record IsEarliest (timers : List Timer) (timer : Timer) : Type 0 where
-  pub is_set : Contains timers timer
-  pub none_before : All (λ other. timer.moment ≤ other.moment) timers
+-- the timer of an entry, which has the moment and then the name once more
+abbrev pub named : ℕ × (ℕ × ℕ) → ℕ × ℕ
+named entry = (entry.0, entry.1.0)
+
+-- a is due before b: for an earlier moment, or for the same, and its name is at most that of b
+abbrev pub IsBefore : ℕ × ℕ → ℕ × ℕ → Type 0
+IsBefore a b = (a.1 < b.1) ⊎ ((a.1 ≡ b.1) × (a.0 ≤ b.0))
+
+-- the timer is set, and none is due before it
+pub record IsFirst (set : List (ℕ × ℕ)) (timer : ℕ × ℕ) : Type 0 where
+  pub is_set : Contains set timer
+  pub before : All (IsBefore timer) set
 
 -- of the timers that were set, those that were due were taken, in this order, and these are left
-pub record TakesDue (now : ℕ) (set taken left : List Timer) : Type 0 where
+pub record TakesDue (now : ℕ) (set taken left : List (ℕ × ℕ)) : Type 0 where
   pub none_lost : IsSameBag set (taken ++ left)
-  pub in_order : IsNonDecreasingBy (λ timer. timer.moment) taken
-  pub none_early : All (λ timer. timer.moment ≤ now) taken
-  pub all_due : All (λ timer. now < timer.moment) left
+  pub in_order : AllPairs IsBefore taken
+  pub none_early : All (λ timer. timer.1 ≤ now) taken
+  pub all_due : All (λ timer. now < timer.1) left
 
 -- those that were taken stand behind what stood in the list before
-pub record AddsDue (now : ℕ) (set left before after : List Timer) : Type 0 where
-  pub taken : List Timer
+pub record AddsDue (now : ℕ) (set left before after : List (ℕ × ℕ)) : Type 0 where
+  pub taken : List (ℕ × ℕ)
   pub added : after ≡ before ++ taken
   pub takes : TakesDue now set taken left

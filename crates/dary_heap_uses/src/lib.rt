@@ -1,5 +1,5 @@
-//! Uses of the heap, each proved from the contracts of `dary_heap` alone. Each module begins with what it does, and
-//! `docs/PROVED.md` says what is proved of it.
+//! Uses of the heaps, each proved from the contracts of `dary_heap` and `indexed_heap` alone. Each module begins with
+//! what it does, and `docs/PROVED.md` says what is proved of it.
 #![tactic(auto)]
 
 pub mod calling;

@@ -1,93 +1,230 @@
-//! The shortest route along one-way roads: a caller of the search, with a contract of its own.
-ghost use Rattle.std.specs.Prelude.{◌≡◌, ◌<◌, ◌↔◌, [], All, length, IsTrue, IfOk, IfErr, IfSome, IfNone};
+//! Shortest paths by lowering: Dijkstra's search over an indexed heap.
+//!
+//! [`shortest_path_by_lowering`] returns what the search of `dary_heap` does. If it finds a cheaper walk to a node that
+//! waits, it lowers the cost that the node waits with. So a node waits once at most, and all memory is allocated before
+//! the first step.
+ghost use Rattle.std.specs.List.{sum_by};
+ghost use Rattle.std.specs.Prelude.{set, slice_index_or, ◌≡◌, ◌+◌, ◌↔◌, ◌<◌, ◌≤◌, IsTrue, IfOk, IfErr, OnOk, OnErr, IfSome, IfNone, All, length};
+ghost use Rattle.dary_heap.specs.Bounds.{RisesWithin, push_bound};
+ghost use Rattle.dary_heap.specs.Walk.{IsWithin, IsLeastCost, IsUnreached, HasCritical, NoneCriticalBelow};
 ghost use Rattle.dary_heap.specs.declared.shortest_path.PathRefusal.TheVariants.{CostTooLarge};
-ghost use Rattle.dary_heap_uses.specs.Routes.{IsJoining, IsMap, IsRoute, IsShortest, HasTooLong};
+ghost use Rattle.dary_heap.specs.shortest_path.Searching.{HasTooLarge};
+ghost use Rattle.dary_heap_uses.specs.Routes.{HasSameRoom, IsReady, Lowers, Waits, raises_bound, search_bound};
 
-use dary_heap::shortest_path::{Edge, PathRefusal, shortest_path};
-use std::alloc::{AllocError, Global};
+use dary_heap::shortest_path::{Edge, PathRefusal};
+use dary_heap::sift::{ByOrd, LeastFirst};
+use indexed_heap::IndexedHeap;
+use std::alloc::Global;
 
-/// A one-way road.
-#[derive(Clone, Copy)]
-pub struct Road {
-    /// The place where it begins.
-    pub start: usize,
-    /// The place where it ends.
-    pub end: usize,
-    /// How long it is.
-    pub miles: usize,
-}
+/// Nodes that wait, each with a cost. The cheapest comes out first.
+pub type CostHeap<const D: usize> = IndexedHeap<usize, D, LeastFirst<ByOrd>>;
 
-/// Returns whether each road joins two places below `places`, as [`shortest_route`] requires.
-pub fn is_joining(places: usize, roads: &[Road]) -> bool
-    ensures { IsTrue result ↔ IsJoining places roads.now }
-{
-    roads
-        .iter()
-        .all(|road| road.start < places && road.end < places)
-}
+/// The cost of a walk reaches `usize::MAX`.
+#[derive(Clone, Copy, PartialEq, Eq, Debug)]
+pub struct TooLarge;
 
-/// Returns the length of the shortest route from one place to another in miles, or `None` if there is no
-/// route. The places are the numbers below `places`: `start` must be one, and so must both ends of each
-/// road ([`is_joining`] tests that). `end` may be any number.
-///
-/// Fails with `NoMemory` if memory allocation fails, and with `CostTooLarge` only if a place that is no
-/// further away than `end` has a road with which the miles from `start` on reach `usize::MAX`.
+/// Returns whether each edge leads to a node, which is a precondition of the searches.
 ///
 /// # Examples
 ///
 /// ```
-/// use dary_heap_uses::roads::{Road, shortest_route};
-/// let road = |start, end, miles| Road { start, end, miles };
-/// let roads = [road(0, 1, 4), road(0, 2, 1), road(2, 1, 2)];
-/// assert_eq!(rt; shortest_route(alloc, 3, &roads, 0, 1), Ok(Some(3)));
-/// assert_eq!(rt; shortest_route(alloc, 3, &roads, 1, 0), Ok(None));
+/// use dary_heap::shortest_path::Edge;
+/// use dary_heap_uses::roads::is_graph;
+/// let from_0 = vec![in alloc; Edge { node: 1, cost: 7 }]?;
+/// let mut graph = vec![in alloc; from_0]?;
+/// assert!(rt; !is_graph(&graph));
+/// graph.push(Vec::new(alloc))?;
+/// assert!(rt; is_graph(&graph));
 /// ```
-#[tactic(auto, using(crate::proofs::Routes::shortest, crate::proofs::Routes::no_route, crate::proofs::Routes::too_long))]
-pub fn shortest_route(
-    alloc: Global,
-    places: usize,
-    roads: &[Road],
-    start: usize,
-    end: usize,
-) -> Result<Option<usize>, PathRefusal>
-    requires roads { IsJoining places roads.now }
-    requires start { start < places }
-    ensures shortest { IfOk result (λ answer. IfSome answer (IsShortest roads.now start end)) }
-    ensures none { IfOk result
-        (λ answer. IfNone answer ((route : _) → IsRoute roads.now start route end → ⊥)) }
-    ensures too_long { IfErr result
-        (λ refusal. refusal ≡ CostTooLarge → HasTooLong usize.MAX roads.now start end) }
+pub fn is_graph(adj_list: &Vec<Vec<Edge>>) -> bool
+    ensures { IsTrue result ↔ IsWithin (length adj_list.now.items) adj_list.now.items }
 {
-    let Ok(edges) = edges_of(alloc, places, roads) else {
+    let nodes = adj_list.len();
+    adj_list.iter().all(|edges| leads_below(edges, nodes))
+}
+
+/// Returns whether each edge leads to a number below `nodes`.
+fn leads_below(edges: &Vec<Edge>, nodes: usize) -> bool
+    ensures { IsTrue result ↔ All (λ edge. edge.node < nodes) edges.now.items }
+{
+    edges.iter().all(|edge| edge.node < nodes)
+}
+
+/// Returns the least cost of a walk from one node to another, or `None` if no walk leads there.
+///
+/// The nodes are the numbers below the length of `adj_list`, which has for each node the list of the edges that leave
+/// it. `goal` may be any number.
+///
+/// # Preconditions
+///
+/// - `start` is a node.
+/// - The `node` of each edge is a node. [`is_graph`] tests that.
+///
+/// # Errors
+///
+/// Returns [`PathRefusal::NoMemory`] if memory allocation fails, which happens only before the first step: for a table
+/// of costs with a number for each node, or for a heap with room for each node.
+///
+/// Returns [`PathRefusal::CostTooLarge`] if costs get too large for a `usize`, in the cases that `shortest_path` of
+/// `dary_heap` states.
+///
+/// # Examples
+///
+/// ```
+/// use dary_heap::shortest_path::Edge;
+/// use dary_heap_uses::roads::shortest_path_by_lowering;
+/// let from_0 = vec![in alloc; Edge { node: 1, cost: 7 }, Edge { node: 2, cost: 1 }]?;
+/// let from_2 = vec![in alloc; Edge { node: 1, cost: 3 }]?;
+/// let graph = vec![in alloc; from_0, Vec::new(alloc), from_2]?;
+/// assert_eq!(rt; shortest_path_by_lowering(alloc, &graph, 0, 1), Ok(Some(4)));
+/// assert_eq!(rt; shortest_path_by_lowering(alloc, &graph, 1, 0), Ok(None));
+/// ```
+pub fn shortest_path_by_lowering(
+    alloc: Global,
+    adj_list: &Vec<Vec<Edge>>,
+    start: usize,
+    goal: usize,
+) -> Result<Option<usize>, PathRefusal>
+    requires graph { IsWithin (length adj_list.now.items) adj_list.now.items }
+    requires start { start < length adj_list.now.items }
+    ensures least { IfOk result
+        (λ answer. IfSome answer (IsLeastCost adj_list.now.items start goal)) }
+    ensures unreached { IfOk result
+        (λ answer. IfNone answer (IsUnreached adj_list.now.items start goal)) }
+    ensures uncritical { OnOk result (NoneCriticalBelow usize.MAX adj_list.now.items start goal) }
+    ensures too_large { IfErr result
+        (λ refusal. refusal ≡ CostTooLarge → HasCritical usize.MAX adj_list.now.items start goal) }
+{
+    let nodes = adj_list.len();
+    let Ok(mut found) = vec![in alloc; usize::MAX; nodes] else {
         return Err(PathRefusal::NoMemory);
     };
-    shortest_path(alloc, &edges, start, end)
+    let mut heap = CostHeap::<4>::with_judge(alloc, LeastFirst(ByOrd::new()));
+    let Ok(()) = heap.reserve(nodes, nodes) else {
+        return Err(PathRefusal::NoMemory);
+    };
+    match shortest_path_by_lowering_within(adj_list, start, goal, &mut found, &mut heap) {
+        Ok(answer) => Ok(answer),
+        Err(TooLarge) => Err(PathRefusal::CostTooLarge),
+    }
 }
 
-/// Returns for each place the edges of the roads that begin there.
-fn edges_of(alloc: Global, places: usize, roads: &[Road]) -> Result<Vec<Vec<Edge>>, AllocError>
-    requires { IsJoining places roads.now }
-    ensures { IfOk result (λ edges. IsMap places roads.now edges.items) }
+/// The same search in memory that the caller has allocated: `found` has a number for each node, and `heap` has room for
+/// each. What they hold before doesn't matter.
+///
+/// It allocates no memory, so many searches can share the room.
+///
+/// # Preconditions
+///
+/// - `start` is a node.
+/// - The `node` of each edge is a node.
+/// - `found` is as long as `adj_list`.
+/// - The capacity of `heap` and its number of keys are at least the number of nodes.
+///
+/// # Errors
+///
+/// Returns [`TooLarge`] if costs get too large for a `usize`.
+///
+/// # Examples
+///
+/// ```
+/// use dary_heap::shortest_path::Edge;
+/// use dary_heap::sift::{ByOrd, LeastFirst};
+/// use dary_heap_uses::roads::{CostHeap, shortest_path_by_lowering_within};
+/// let from_0 = vec![in alloc; Edge { node: 1, cost: 7 }]?;
+/// let graph = vec![in alloc; from_0, Vec::new(alloc)]?;
+/// let mut found = [0; 2];
+/// let mut heap = CostHeap::<8>::with_judge(alloc, LeastFirst(ByOrd::new()));
+/// heap.reserve(2, 2)?;
+/// for (start, answer) in [(0, Ok(Some(7))), (1, Ok(Some(0)))] {
+///     assert_eq!(rt; shortest_path_by_lowering_within(&graph, start, 1, &mut found, &mut heap), answer);
+/// }
+/// ```
+///
+/// # Time
+///
+/// The table is filled once. Each node comes out of the heap once at most. A cost is put into the heap or lowered there
+/// once for the start, and once at most for each edge.
+pub fn shortest_path_by_lowering_within<const D: usize>(
+    adj_list: &Vec<Vec<Edge>>,
+    start: usize,
+    goal: usize,
+    found: &mut [usize],
+    heap: &mut CostHeap<D>,
+) -> Result<Option<usize>, TooLarge>
+    requires graph { IsWithin (length adj_list.now.items) adj_list.now.items }
+    requires start { start < length adj_list.now.items }
+    requires long { length found.old ≡ length adj_list.now.items }
+    requires room { length adj_list.now.items ≤ heap.old.capacity }
+    requires keyed { length adj_list.now.items ≤ heap.old.keys }
+    ensures least { IfOk result
+        (λ answer. IfSome answer (IsLeastCost adj_list.now.items start goal)) }
+    ensures unreached { IfOk result
+        (λ answer. IfNone answer (IsUnreached adj_list.now.items start goal)) }
+    ensures uncritical { OnOk result (NoneCriticalBelow usize.MAX adj_list.now.items start goal) }
+    ensures too_large { OnErr result (HasCritical usize.MAX adj_list.now.items start goal) }
+    ensures room { HasSameRoom heap.old heap.new }
+    ensures counted { RisesWithin heap.old.comparisons heap.new.comparisons
+        (search_bound D (length adj_list.now.items) (sum_by (λ row. length row.items) adj_list.now.items)) }
 {
-    let mut edges = empty_rows(alloc, places)?;
-    for road in roads {
-        let edge = Edge {
-            node: road.end,
-            cost: road.miles,
-        };
-        edges[road.start].push(edge)?;
+    found.fill(usize::MAX);
+    heap.clear();
+    wait_at(start, 0, found, heap);
+    while let Some((node, cost)) = heap.pop() {
+        if node == goal {
+            return Ok(Some(cost));
+        }
+        relax(&adj_list[node], cost, found, heap)?;
     }
-    Ok(edges)
+    Ok(None)
 }
 
-/// Returns an empty list of edges for each place.
-fn empty_rows(alloc: Global, places: usize) -> Result<Vec<Vec<Edge>>, AllocError>
-    ensures long { IfOk result (λ rows. length rows.items ≡ places) }
-    ensures empty { IfOk result (λ rows. All (λ row. row.items ≡ []) rows.items) }
+/// Examines the edges of a node that is reached at a cost. If a walk over one of them costs less than was found for the
+/// node that it leads to, that node waits with the lower cost from then on.
+fn relax<const D: usize>(
+    edges: &Vec<Edge>,
+    cost: usize,
+    found: &mut [usize],
+    heap: &mut CostHeap<D>,
+) -> Result<(), TooLarge>
+    requires within { All (λ edge. edge.node < length found.old) edges.now.items }
+    requires ready { IsReady usize.MAX found.old heap.old }
+    ensures ready { IsReady usize.MAX found.new heap.new }
+    ensures ok { OnOk result (Lowers usize.MAX cost edges.now.items
+        found.old heap.old.entries found.new heap.new.entries) }
+    ensures too_large { OnErr result (HasTooLarge usize.MAX cost edges.now.items) }
+    ensures room { HasSameRoom heap.old heap.new }
+    ensures counted { RisesWithin heap.old.comparisons heap.new.comparisons
+        (raises_bound D (length found.old) (length edges.now.items)) }
 {
-    let mut rows = Vec::new(alloc);
-    for _ in 0..places {
-        rows.push(Vec::new(alloc))?;
+    for edge in edges {
+        // Tests whether the sum reaches `usize::MAX`, without overflow.
+        if edge.cost >= usize::MAX - cost {
+            return Err(TooLarge);
+        }
+        let next = cost + edge.cost;
+        if next < found[edge.node] {
+            wait_at(edge.node, next, found, heap);
+        }
     }
-    Ok(rows)
+    Ok(())
+}
+
+/// Lowers the cost that was found for a node, which waits with that cost from then on.
+fn wait_at<const D: usize>(node: usize, cost: usize, found: &mut [usize], heap: &mut CostHeap<D>)
+    requires within { node < length found.old }
+    requires ready { IsReady usize.MAX found.old heap.old }
+    requires lower { cost < slice_index_or found.old node usize.MAX }
+    ensures found { found.new ≡ set found.old node cost }
+    ensures ready { IsReady usize.MAX found.new heap.new }
+    ensures waits { Waits node cost heap.old.entries heap.new.entries }
+    ensures room { HasSameRoom heap.old heap.new }
+    ensures counted { RisesWithin heap.old.comparisons heap.new.comparisons
+        (push_bound D (length found.old) + 1) }
+{
+    let Ok(_) = heap.raise(node, cost) else {
+        // The node waits already, or fewer nodes wait than there is room for.
+        unreachable!();
+    };
+    found[node] = cost;
 }

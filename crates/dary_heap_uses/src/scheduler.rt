@@ -1,10 +1,12 @@
-//! A scheduler in fixed memory. A heap doesn't say which of two equal items comes out first. So each job gets
-//! a number that counts up, and the number stands beside the priority.
-ghost use Rattle.std.specs.Prelude.{◌≡◌, ◌+◌, ◌<◌, ◌≤◌, ◌↔◌, [], ◌∷◌, length, IsTrue, IsOk, IfOk, IfErr, OnOk, OnErr, IsSome, IfSome, IfNone};
+//! A scheduler: jobs with ids wait at a priority, which may change, until they are taken out or cancelled. A heap
+//! doesn't say which of two equal items comes out first. So each job has a turn, which counts up, beside its priority.
+ghost use Rattle.std.specs.Prelude.{◌≡◌, ◌+◌, ◌<◌, ◌≤◌, ◌⊎◌, ◌↔◌, [], ◌∷◌, All, length, IsOk, IfOk, IfErr, OnOk, OnErr, IsSome, IfSome, IfNone};
+ghost use Rattle.std.specs.Bool.{OnTrue, OnFalse};
 ghost use Rattle.dary_heap.specs.Bag.{IsSameBag};
-ghost use Rattle.dary_heap_uses.specs.Scheduling.{Schedule, IsNumbered, IsTaken, added};
+ghost use Rattle.indexed_heap.specs.Entries.{Gets, IsAbsent, Loses};
+ghost use Rattle.dary_heap_uses.specs.Scheduling.{ComesBefore, HasMoved, IsNumbered, Schedule, submitted};
 
-use dary_heap::QuaternaryHeap;
+use indexed_heap::IndexedHeap;
 use std::alloc::{AllocError, Global};
 use std::cmp::Reverse;
 use std::marker::Model;
@@ -13,57 +15,65 @@ use std::marker::Model;
 #[derive(Drop)]
 #[derive_where(PartialEq, Eq, PartialOrd, Ord)]
 pub struct Waiting<J> {
-    /// The greater, the sooner.
+    /// The job with the greatest priority comes out first.
     pub priority: u32,
-    /// How many jobs came before it. Of jobs of one priority that with the least number is the greatest.
-    pub number: Reverse<u64>,
+    /// How many jobs were submitted before it. Of jobs of the same priority the one with the least turn is the
+    /// greatest.
+    pub turn: Reverse<u64>,
     /// What is to be done.
     #[derive_where(skip)]
     pub job: J,
 }
 
-/// Jobs that wait, in room that was reserved once. The job of the greatest priority is taken first,
-/// and of one priority the one that came first.
+/// Jobs that wait, each with an id, which is a small number of your own. The job of the greatest priority comes
+/// first, and of those of the same priority the one that was submitted first.
 ///
 /// # Examples
 ///
 /// ```
 /// use dary_heap_uses::scheduler::Scheduler;
-/// let mut scheduler = Scheduler::with_room(alloc, 2)?;
-/// scheduler.add(1, "sweep")?;
-/// scheduler.add(5, "cook")?;
-/// assert_eq!(rt; scheduler.add(9, "sing"), Err("sing"));
-/// assert_eq!(rt; scheduler.take(), Some("cook"));
-/// assert_eq!(rt; scheduler.take(), Some("sweep"));
-/// assert_eq!(rt; scheduler.take(), None);
+/// let mut scheduler = Scheduler::new(alloc);
+/// scheduler.reserve(3, 10)?;
+/// let _ = scheduler.submit(7, 1, "sweep");
+/// let _ = scheduler.submit(8, 1, "wash");
+/// let _ = scheduler.submit(9, 5, "cook");
+/// assert!(rt; scheduler.reprioritise(8, 6));
+/// assert_eq!(rt; scheduler.cancel(9).map(|waiting| waiting.job), Some("cook"));
+/// assert_eq!(rt; scheduler.next().map(|(id, waiting)| (id, waiting.job)), Some((8, "wash")));
+/// assert_eq!(rt; (scheduler.len(), scheduler.came()), (1, 3));
 /// ```
 #[derive(Drop)]
 pub struct Scheduler<J> {
-    jobs: QuaternaryHeap<Waiting<J>>,
+    jobs: IndexedHeap<Waiting<J>, 4>,
     came: u64,
 }
 
 impl<J> Model for Scheduler<J> {
     ghost Value = { Schedule J };
 
-    ghost view = { λ s. record { waiting = s.jobs.items; came = s.came; room = s.jobs.capacity } };
+    ghost view = { λ s. record {
+      waiting = s.jobs.entries;
+      came = s.came;
+      room = s.jobs.capacity;
+      ids = s.jobs.keys;
+    } };
 
-    ghost invariant = { λ s. IsNumbered s.jobs.items s.came };
+    ghost invariant = { λ s. IsNumbered s.jobs.entries s.came };
 }
 
 impl<J> Scheduler<J> {
-    /// Returns a scheduler without jobs, with room for `room` of them. Fails if memory allocation fails.
+    /// Returns a scheduler without jobs. It allocates no memory.
     #[tactic(auto, using(crate::proofs::Scheduling::numbered_none))]
-    pub fn with_room(alloc: Global, room: usize) -> Result<Scheduler<J>, AllocError>
-    where
-        J: Drop,
-        ensures waiting { IfOk result (λ scheduler. scheduler.waiting ≡ []) }
-        ensures came { IfOk result (λ scheduler. scheduler.came ≡ 0) }
-        ensures room { IfOk result (λ scheduler. scheduler.room ≡ room) }
+    pub fn new(alloc: Global) -> Scheduler<J>
+        ensures waiting { result.waiting ≡ [] }
+        ensures came { result.came ≡ 0 }
+        ensures room { result.room ≡ 0 }
+        ensures ids { result.ids ≡ 0 }
     {
-        let mut jobs = QuaternaryHeap::new(alloc);
-        jobs.reserve_exact(room)?;
-        Ok(Scheduler { jobs, came: 0 })
+        Scheduler {
+            jobs: IndexedHeap::new(alloc),
+            came: 0,
+        }
     }
 
     /// Returns the number of jobs that wait.
@@ -73,57 +83,115 @@ impl<J> Scheduler<J> {
         self.jobs.len()
     }
 
-    /// Returns `true` if no job waits.
-    pub fn is_empty(&self) -> bool
-        ensures { IsTrue result ↔ (self.now.waiting ≡ []) }
-    {
-        self.jobs.is_empty()
-    }
-
-    /// Returns the number of jobs added so far.
+    /// Returns the number of jobs submitted so far.
     pub fn came(&self) -> u64
         ensures { result ≡ self.now.came }
     {
         self.came
     }
 
-    /// Adds a job, if fewer than `u64::MAX` were added so far (a precondition). It allocates no memory.
-    /// Fails with the job if all room is in use. Nothing has changed then.
-    pub fn add(&mut self, priority: u32, job: J) -> Result<(), J>
-        requires { self.old.came < u64.MAX }
-        ensures waits { OnOk result
-            (IsSameBag (added priority self.old.came job ∷ self.old.waiting) self.new.waiting) }
-        ensures came { OnOk result (self.new.came ≡ self.old.came + 1) }
-        ensures room { self.new.room ≡ self.old.room }
-        ensures succeeds { length self.old.waiting < self.old.room → IsOk result }
-        ensures full { OnErr result (self.old.room ≤ length self.old.waiting) }
-        ensures returned { IfErr result (λ back. back ≡ job) }
-        ensures unchanged { OnErr result (self.new ≡ self.old) }
+    /// Reserves room for at least `additional` more jobs, with ids below `ids`. After `Ok` that many can be submitted
+    /// without an error. Fails if memory allocation fails, which happens only if some of that room was missing. The
+    /// jobs stay as they are.
+    pub fn reserve(&mut self, additional: usize, ids: usize) -> Result<(), AllocError>
+        ensures waiting { self.new.waiting ≡ self.old.waiting }
+        ensures came { self.new.came ≡ self.old.came }
+        ensures room { OnOk result (length self.new.waiting + additional ≤ self.new.room) }
+        ensures ids { OnOk result (ids ≤ self.new.ids) }
+        ensures succeeds { length self.old.waiting + additional ≤ self.old.room
+            → ids ≤ self.old.ids → IsOk result }
     {
-        if self.jobs.len() >= self.jobs.capacity() {
-            return Err(job);
-        }
-        let waiting = Waiting {
-            priority,
-            number: Reverse(self.came),
-            job,
-        };
-        if let Err(refused) = self.jobs.push(waiting) {
-            return Err(refused.job);
-        }
-        self.came += 1;
-        Ok(())
+        self.jobs.reserve(additional, ids)
     }
 
-    /// Removes the job that is to come first and returns it, or `None` if no job waits. The room stays.
-    pub fn take(&mut self) -> Option<J>
+    /// Submits a job. If a job of this id waits, the new one takes its place, and the old one is returned.
+    ///
+    /// # Preconditions
+    ///
+    /// - Fewer than `u64::MAX` jobs were submitted so far.
+    ///
+    /// # Errors
+    ///
+    /// Fails with the job if memory allocation fails, or if the id is `usize::MAX`. This happens only if no job of
+    /// this id waits, and all room is in use or the id is past the room for ids. The jobs stay as they are.
+    pub fn submit(&mut self, id: usize, priority: u32, job: J) -> Result<Option<Waiting<J>>, J>
+        requires { self.old.came < u64.MAX }
+        ensures waits { IfOk result (λ before. Gets id (submitted priority self.old.came job)
+            self.old.waiting before self.new.waiting) }
+        ensures came { OnOk result (self.new.came ≡ self.old.came + 1) }
+        ensures kept { length self.old.waiting < self.old.room → self.new.room ≡ self.old.room }
+        ensures keyed { id < self.old.ids → self.new.ids ≡ self.old.ids }
+        ensures succeeds { length self.old.waiting < self.old.room → id < self.old.ids
+            → IsOk result }
+        ensures full { OnErr result (IsAbsent id self.old.waiting
+            × ((length self.old.waiting ≡ self.old.room) ⊎ (self.old.ids ≤ id))) }
+        ensures returned { IfErr result (λ back. back ≡ job) }
+        ensures unchanged { OnErr result (self.new.waiting ≡ self.old.waiting) }
+        ensures uncounted { OnErr result (self.new.came ≡ self.old.came) }
+    {
+        let waiting = Waiting {
+            priority,
+            turn: Reverse(self.came),
+            job,
+        };
+        match self.jobs.insert(id, waiting) {
+            Ok(before) => {
+                self.came += 1;
+                Ok(before)
+            },
+            Err(refused) => Err(refused.job),
+        }
+    }
+
+    /// Removes the job that is to come first and returns it with its id, or returns `None` if no job waits. No job
+    /// that is left has a higher priority, or the same and was submitted earlier.
+    pub fn next(&mut self) -> Option<(usize, Waiting<J>)>
         ensures variant { IsSome result ↔ (0 < length self.old.waiting) }
-        ensures first { IfSome result (λ job. IsTaken self.old.waiting job self.new.waiting) }
+        ensures taken { IfSome result (λ entry. IsSameBag self.old.waiting
+            (entry ∷ self.new.waiting)) }
+        ensures first { IfSome result (λ entry. All (λ other. ComesBefore entry.1 other.1)
+            self.new.waiting) }
         ensures came { self.new.came ≡ self.old.came }
         ensures room { self.new.room ≡ self.old.room }
+        ensures ids { self.new.ids ≡ self.old.ids }
         ensures unchanged { IfNone result (self.new ≡ self.old) }
     {
-        let first = self.jobs.pop()?;
-        Some(first.job)
+        let entry = self.jobs.pop()?;
+        Some(entry)
+    }
+
+    /// Removes the job of an id and returns it, or returns `None` if none waits.
+    pub fn cancel(&mut self, id: usize) -> Option<Waiting<J>>
+        ensures cancelled { Loses id self.old.waiting result self.new.waiting }
+        ensures gone { IsAbsent id self.new.waiting }
+        ensures came { self.new.came ≡ self.old.came }
+        ensures room { self.new.room ≡ self.old.room }
+        ensures ids { self.new.ids ≡ self.old.ids }
+        ensures unchanged { IfNone result (self.new ≡ self.old) }
+    {
+        self.jobs.remove(id)
+    }
+
+    /// Gives the job of an id another priority, at which it keeps its turn. Returns `false` if none waits. It
+    /// allocates no memory.
+    pub fn reprioritise(&mut self, id: usize, priority: u32) -> bool
+    where
+        J: Drop,
+        ensures changed { OnTrue result
+            (HasMoved id priority self.old.waiting self.new.waiting) }
+        ensures absent { OnFalse result (IsAbsent id self.old.waiting) }
+        ensures came { self.new.came ≡ self.old.came }
+        ensures room { self.new.room ≡ self.old.room }
+        ensures ids { self.new.ids ≡ self.old.ids }
+        ensures unchanged { OnFalse result (self.new ≡ self.old) }
+    {
+        // For the proof: their contracts say that there is room for each job that waits, so the insert can't fail.
+        let _ = (self.jobs.capacity(), self.jobs.keys());
+        let Some(mut waiting) = self.jobs.remove(id) else {
+            return false;
+        };
+        waiting.priority = priority;
+        let _ = self.jobs.insert(id, waiting);
+        true
     }
 }

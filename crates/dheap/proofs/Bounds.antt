@@ -1,5 +1,6 @@
 -- A run with predicates that ask whether a number is at least a bound is a run with the bounds.
-use Rattle.dheap.proofs.Common.{◌≡◌, ℕ, ℤ, Bool, true, false, List, [], ◌∷◌, ◌++◌, None, Some, refl, sym, ap, ◌∙◌, subst, inl, inr, int_le, All, is_some, Command, Step, Steps, MayAnswer, PopIf, Ask, Retain, DrainSorted, Popped, Asked, Done, text, AsksAtLeast, MayPrint, CarryOut, CarryOutLine, Say, lines_of, Line}
+use Rattle.dheap.proofs.Common.{◌≡◌, ℕ, ℤ, Bool, true, false, List, [], ◌∷◌, ◌++◌, None, Some, refl, sym, ap, ◌∙◌, subst, inl, inr, int_le, All, is_some, Command, Step, Steps, MayAnswer, PopIf, Ask}
+use Rattle.dheap.proofs.Common.{Retain, DrainSorted, Popped, Asked, Done, text, AsksAtLeast, MayPrint, CarryOut, CarryOutLine, Say, lines_of, Line}
 use Rattle.std.specs.List.Retain.{ReturnsInTurn, IsFiltered}
 use Rattle.std.specs.Ordering.{int_cmp}
 use Rattle.dary_heap.specs.Machine.{Reply, Push, Pop, Len}
@@ -49,7 +50,8 @@ module _ {P : Type 0} (calls : P → ℤ → Bool → P → Type 0) (means : ℤ
   abbrev HasBounds : List Line → List (Command ℤ P) → Type 0
   HasBounds lines commands = (bounds : List (Command ℤ ℤ)) × CarryOut (λ n bound. bound ≡ n) bounds lines × Pairs commands bounds
 
-  more : (l : Line) (c : Command ℤ P) (b : Command ℤ ℤ) → Converts c b → CarryOutLine (λ n bound. bound ≡ n) (b ∷ []) l → (lines : List Line) (first later commands : List (Command ℤ P)) → commands ≡ first ++ later → first ≡ c ∷ [] → HasBounds lines later → HasBounds (l ∷ lines) commands
+  more : (l : Line) (c : Command ℤ P) (b : Command ℤ ℤ) → Converts c b → CarryOutLine (λ n bound. bound ≡ n) (b ∷ []) l → (lines : List Line) (first later commands : List (Command ℤ P)) →
+      commands ≡ first ++ later → first ≡ c ∷ [] → HasBounds lines later → HasBounds (l ∷ lines) commands
   more l c b converts is lines first later commands e f (bounds, carry, pairs) =
       (b ∷ bounds, (b ∷ [], bounds, refl, is, carry), subst (λ cs. Pairs cs (b ∷ bounds)) (sym (e ∙ ap (λ fs. fs ++ later) f)) (converts, pairs))
 
@@ -61,12 +63,17 @@ module _ {P : Type 0} (calls : P → ℤ → Bool → P → Type 0) (means : ℤ
   bounds_of (line.Push n ∷ lines) commands (first, later, e, is, rest) = more (line.Push n) (Push n) (Push n) (λ old reply new h. h) refl lines first later commands e is (bounds_of lines later rest)
   bounds_of (line.Pop ∷ lines) commands (first, later, e, is, rest) = more line.Pop Pop Pop (λ old reply new h. h) refl lines first later commands e is (bounds_of lines later rest)
   bounds_of (line.Len ∷ lines) commands (first, later, e, is, rest) = more line.Len Len Len (λ old reply new h. h) refl lines first later commands e is (bounds_of lines later rest)
-  bounds_of (line.Sorted n ∷ lines) commands (first, later, e, is, rest) = more (line.Sorted n) (DrainSorted n) (DrainSorted n) (λ old reply new h. h) refl lines first later commands e is (bounds_of lines later rest)
-  bounds_of (line.Test n ∷ lines) commands (first, later, e, is, rest) = more (line.Test n) (Ask is.0) (Ask n) (ask n is.0 is.1) (n, refl, refl) lines first later commands e is.2 (bounds_of lines later rest)
-  bounds_of (line.PopIf n ∷ lines) commands (first, later, e, is, rest) = more (line.PopIf n) (PopIf is.0) (PopIf n) (pop_if n is.0 is.1) (n, refl, refl) lines first later commands e is.2 (bounds_of lines later rest)
-  bounds_of (line.Keep n ∷ lines) commands (first, later, e, is, rest) = more (line.Keep n) (Retain is.0) (Retain n) (retain n is.0 is.1) (n, refl, refl) lines first later commands e is.2 (bounds_of lines later rest)
+  bounds_of (line.Sorted n ∷ lines) commands (first, later, e, is, rest) =
+      more (line.Sorted n) (DrainSorted n) (DrainSorted n) (λ old reply new h. h) refl lines first later commands e is (bounds_of lines later rest)
+  bounds_of (line.Test n ∷ lines) commands (first, later, e, is, rest) =
+      more (line.Test n) (Ask is.0) (Ask n) (ask n is.0 is.1) (n, refl, refl) lines first later commands e is.2 (bounds_of lines later rest)
+  bounds_of (line.PopIf n ∷ lines) commands (first, later, e, is, rest) =
+      more (line.PopIf n) (PopIf is.0) (PopIf n) (pop_if n is.0 is.1) (n, refl, refl) lines first later commands e is.2 (bounds_of lines later rest)
+  bounds_of (line.Keep n ∷ lines) commands (first, later, e, is, rest) =
+      more (line.Keep n) (Retain is.0) (Retain n) (retain n is.0 is.1) (n, refl, refl) lines first later commands e is.2 (bounds_of lines later rest)
 
-  run_on : (old : List ℤ) (cs : List (Command ℤ P)) (bs : List (Command ℤ ℤ)) (replies : List (Reply ℤ)) (states : List (List ℤ)) → Pairs cs bs → Steps int_cmp calls old cs replies states → Steps int_cmp AsksAtLeast old bs replies states
+  run_on : (old : List ℤ) (cs : List (Command ℤ P)) (bs : List (Command ℤ ℤ)) (replies : List (Reply ℤ)) (states : List (List ℤ)) → Pairs cs bs → Steps int_cmp calls old cs replies states →
+      Steps int_cmp AsksAtLeast old bs replies states
   run_on old [] [] [] [] pairs h = tt
   run_on old [] (b ∷ bs) replies states pairs h = absurd pairs
   run_on old (c ∷ cs) [] replies states pairs h = absurd pairs
@@ -74,12 +81,14 @@ module _ {P : Type 0} (calls : P → ℤ → Bool → P → Type 0) (means : ℤ
   run_on old cs bs replies states pairs h = absurd h
 
 -- what a call of `run` on an empty heap ensures, with the law last, and the replies as they are handed on
-pub may_print_by : {P : Type 0} {calls : Mut P (Bor ℤ × Unit {0}) Bool} {means : ℤ → P → Type 0} {D : ℕ} {old new : Contents ℤ} {commands : List (Command ℤ P)} {replies shown : List (Reply ℤ)} (script : List ℕ) (lines : List Line)
+pub may_print_by : {P : Type 0} {calls : Mut P (Bor ℤ × Unit {0}) Bool} {means : ℤ → P → Type 0} {D : ℕ} {old new : Contents ℤ} {commands : List (Command ℤ P)} {replies shown : List (Reply ℤ)}
+    (script : List ℕ) (lines : List Line)
     → Say (lines_of script) lines → CarryOut means commands lines → Runs int_cmp (CalledAt calls) D old commands replies new → old.items ≡ [] → shown ≡ replies
     → All (λ reply. is_some (answers_of.answer reply) ≡ true) shown
     → ((n : ℤ) (p : P) (x : ℤ) (a : Bool) (q : P) → means n p → CalledAt calls p x a q → (a ≡ int_le n x) × means n q)
     → MayPrint script (text shown)
 may_print_by {P} {calls} {means} {D} {old} {new} {commands} {replies} {shown} script lines say carry runs none same whole law =
     let (bounds, told, pairs) = bounds_of (CalledAt calls) means law lines commands carry in
-    let run : Steps int_cmp (CalledAt calls) [] commands shown runs.states = subst (λ items. Steps int_cmp (CalledAt calls) items commands shown runs.states) none (subst (λ rs. Steps int_cmp (CalledAt calls) old.items commands rs runs.states) (sym same) runs.run) in
+    let run : Steps int_cmp (CalledAt calls) [] commands shown runs.states =
+    subst (λ items. Steps int_cmp (CalledAt calls) items commands shown runs.states) none (subst (λ rs. Steps int_cmp (CalledAt calls) old.items commands rs runs.states) (sym same) runs.run) in
     (lines, bounds, shown, runs.states, say, told, run_on (CalledAt calls) means law [] commands bounds shown runs.states pairs run, whole, refl)

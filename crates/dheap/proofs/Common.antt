@@ -1,6 +1,8 @@
 -- What the proofs of this crate import from elsewhere: names of std, of the logic and of `specs`.
 pub use borrow.Author.Tests.{tests}
-pub use Rattle.std.proofs.Common.{All, Bool, Err, FitsSigned, IfSome, List, None, Ok, OnOk, Option, Result, Some, [], ap, append-nil, append_assoc, arith, codes, cond, drop, false, flat_map, get_or, inl, inr, int_le, is_some, length, lit<, map, neg_ℤ, not, of_calls, option_to_list, pos, refl, rules, set, subst, subst₂, suc, sym, take, true, zero, ℕ, ℤ, ◌%◌, ◌++◌, ◌+◌, ◌-ℤ◌, ◌-◌, ◌/◌, ◌<◌, ◌==◌, ◌^◌, ◌||◌, ◌∙◌, ◌∷◌, ◌≡◌, ◌≤◌}
+pub use Rattle.std.proofs.Common.{All, Bool, Err, FitsSigned, IfSome, List, None, Ok, OnOk, Option, Result, Some, [], ap, append-nil, append_assoc, arith, codes, cond, drop, false, flat_map, get_or}
+pub use Rattle.std.proofs.Common.{inl, inr, int_le, is_some, length, lit<, map, neg_ℤ, not, of_calls, option_to_list, pos, refl, rules, set, subst, subst₂, suc, sym, take, true, zero, ℕ, ℤ, ◌%◌}
+pub use Rattle.std.proofs.Common.{◌++◌, ◌+◌, ◌-ℤ◌, ◌-◌, ◌/◌, ◌<◌, ◌==◌, ◌^◌, ◌||◌, ◌∙◌, ◌∷◌, ◌≡◌, ◌≤◌}
 pub use Rattle.std.proofs.Math.Bool.{true≢false}
 pub use Rattle.std.proofs.lemmas.Bool.{eqb-true, ne_eqb}
 pub use Rattle.std.proofs.lemmas.Bool.Decides.{Decides-eqb}

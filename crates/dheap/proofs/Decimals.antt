@@ -1,5 +1,6 @@
 -- How the digits of a number are written, from the last to the first.
-use Rattle.dheap.proofs.Common.{◌≡◌, ◌+◌, ◌-◌, ◌/◌, ◌%◌, ◌^◌, ◌<◌, ◌≤◌, ℕ, ℤ, zero, suc, List, [], ◌∷◌, ◌++◌, codes, flat_map, length, drop, set, refl, sym, ap, ◌∙◌, append_assoc, append-nil, Result, Ok, Err, OnOk, arith, decimal, signed_decimal, listing}
+use Rattle.dheap.proofs.Common.{◌≡◌, ◌+◌, ◌-◌, ◌/◌, ◌%◌, ◌^◌, ◌<◌, ◌≤◌, ℕ, ℤ, zero, suc, List, [], ◌∷◌, ◌++◌, codes, flat_map, length, drop, set, refl, sym, ap, ◌∙◌, append_assoc, append-nil}
+use Rattle.dheap.proofs.Common.{Result, Ok, Err, OnOk, arith, decimal, signed_decimal, listing}
 use Rattle.std.proofs.lemmas.Fmt.{decimal_digit, decimal_step}
 use Rattle.std.proofs.lemmas.Grind.{drop-set_at}
 
@@ -33,7 +34,8 @@ listing_to_last (x ∷ xs) y =
     ∙ sym (append_assoc (signed_decimal x) (codes " ") (before ++ signed_decimal y)) ∙ sym (append_assoc (signed_decimal x ++ codes " ") before (signed_decimal y))
 
 -- what is buffered of a listing, in the end
-pub listing_buffered : {E : Type 0} (result : Result (Unit {0}) E) (items others : List ℤ) (last : ℤ) (old buffer new : List ℕ) → items ≡ others ++ last ∷ [] → buffer ≡ old ++ flat_map (λ x. signed_decimal x ++ codes " ") others
+pub listing_buffered : {E : Type 0} (result : Result (Unit {0}) E) (items others : List ℤ) (last : ℤ) (old buffer new : List ℕ) → items ≡ others ++ last ∷ [] →
+    buffer ≡ old ++ flat_map (λ x. signed_decimal x ++ codes " ") others
     → OnOk result (new ≡ buffer ++ (signed_decimal last ++ codes "\n")) → OnOk result (new ≡ old ++ (listing items ++ codes "\n"))
 listing_buffered (Err e) items others last old buffer new whole before end = tt
 listing_buffered (Ok u) items others last old buffer new whole before end =

@@ -1,5 +1,8 @@
 -- How a line is read that is written plainly.
-use Rattle.dheap.proofs.Common.{◌≡◌, ◌+◌, ◌<◌, ◌==◌, ◌||◌, ℕ, ℤ, pos, neg_ℤ, ◌-ℤ◌, FitsSigned, codes, Bool, true, false, cond, List, [], ◌∷◌, ◌++◌, All, length, take, drop, get_or, refl, sym, ap, subst, ◌∙◌, arith, IsInRange, w64, slice_split, onto_first, filter, AllDigits, IsNumeral, digits_value, signed_digits_value, starts_with_minus, without_leading_plus, without_leading_sign, ne_eqb, eqb-true, take-append-drop, All-cons, All-nil, slice_split_at, slice_split_none, digit_at, true≢false, IsFirstLine, is_blank, lines_of, words_of}
+use Rattle.dheap.proofs.Common.{◌≡◌, ◌+◌, ◌<◌, ◌==◌, ◌||◌, ℕ, ℤ, pos, neg_ℤ, ◌-ℤ◌, FitsSigned, codes, Bool, true, false, cond, List, [], ◌∷◌, ◌++◌, All, length, take, drop, get_or, refl, sym, ap}
+use Rattle.dheap.proofs.Common.{subst, ◌∙◌, arith, IsInRange, w64, slice_split, onto_first, filter, AllDigits, IsNumeral, digits_value, signed_digits_value, starts_with_minus, without_leading_plus}
+use Rattle.dheap.proofs.Common.{without_leading_sign, ne_eqb, eqb-true, take-append-drop, All-cons, All-nil, slice_split_at, slice_split_none, digit_at, true≢false, IsFirstLine, is_blank, lines_of}
+use Rattle.dheap.proofs.Common.{words_of}
 use Rattle.std.proofs.Math.IntN.{+ℤ_idl}
 use Rattle.std.proofs.lemmas.Str.{IsUtf8-from_ascii}
 use Rattle.std.proofs.lemmas.Str.Ascii.{IsAscii-from_all}
@@ -65,7 +68,8 @@ unsigned (c ∷ cs) h =
     (ne_eqb c 45 (λ e. omega (arith, range, e)), ap (λ b. drop (cond b 1 0) (c ∷ cs)) (ne_eqb c 43 (λ e. omega (arith, range, e))))
 
 -- after a space and a minus
-pub minus_number : (script signed after word rest : List ℕ) (size : ℕ) (n : ℤ) → script ≡ 32 ∷ signed → signed ≡ 45 ∷ after → after ≡ word ++ 10 ∷ rest → IsNumeral 10 word → size ≡ digits_value 10 word
+pub minus_number : (script signed after word rest : List ℕ) (size : ℕ) (n : ℤ) → script ≡ 32 ∷ signed → signed ≡ 45 ∷ after → after ≡ word ++ 10 ∷ rest → IsNumeral 10 word →
+    size ≡ digits_value 10 word
     → FitsSigned w64 (pos 0 -ℤ pos size) × (n ≡ pos 0 -ℤ pos size)
     → (all : List ℕ) × (script ≡ 32 ∷ all ++ 10 ∷ rest) × IsNumber all × (n ≡ signed_digits_value 10 all)
 minus_number script signed after word rest size n space minus ends digits value (fits, is) =
@@ -84,12 +88,14 @@ script_begins script name after word (first, later, _) named = sym (take-append-
 module _ (script after word rest : List ℕ) (n : ℤ) (ends : after ≡ 32 ∷ word ++ 10 ∷ rest) (is : IsNumber word) (value : n ≡ signed_digits_value 10 word) where
   pub push_line : script ≡ codes "push" ++ after → IsFirstLine script (Push n) rest
   push_line first =
-      let lines = ap lines_of (first ∙ ap (λ xs. codes "push" ++ xs) ends) ∙ ap (λ ls. onto_first 112 (onto_first 117 (onto_first 115 (onto_first 104 (onto_first 32 ls))))) (number_line word rest is) in
+      let lines =
+      ap lines_of (first ∙ ap (λ xs. codes "push" ++ xs) ends) ∙ ap (λ ls. onto_first 112 (onto_first 117 (onto_first 115 (onto_first 104 (onto_first 32 ls))))) (number_line word rest is) in
       (112 ∷ 117 ∷ 115 ∷ 104 ∷ 32 ∷ word, lines, (word, ap (λ ws. codes "push" ∷ ws) (only_word word rest is), is, value))
 
   pub test_line : script ≡ codes "test" ++ after → IsFirstLine script (Test n) rest
   test_line first =
-      let lines = ap lines_of (first ∙ ap (λ xs. codes "test" ++ xs) ends) ∙ ap (λ ls. onto_first 116 (onto_first 101 (onto_first 115 (onto_first 116 (onto_first 32 ls))))) (number_line word rest is) in
+      let lines =
+      ap lines_of (first ∙ ap (λ xs. codes "test" ++ xs) ends) ∙ ap (λ ls. onto_first 116 (onto_first 101 (onto_first 115 (onto_first 116 (onto_first 32 ls))))) (number_line word rest is) in
       (116 ∷ 101 ∷ 115 ∷ 116 ∷ 32 ∷ word, lines, (word, ap (λ ws. codes "test" ∷ ws) (only_word word rest is), is, value))
 
 -- the lines that have none

@@ -1,5 +1,7 @@
 -- How a script is read, line by line.
-use Rattle.dheap.proofs.Common.{◌≡◌, ◌+◌, ◌<◌, ◌≤◌, ℕ, ℤ, suc, zero, Bool, true, false, List, [], ◌∷◌, ◌++◌, length, take, drop, Option, None, Some, IfSome, refl, sym, ap, ◌∙◌, append_assoc, append-nil, arith, slice_split, onto_first, AllWithin, HoldsAt, slice_split-cons_yes, slice_split-cons_no, length-slice_split, slice_split_none, All-from_all_within, Command, Say, CarryOut, CarryOutLine, IsFirstBad, lines_of, Fault, Line}
+use Rattle.dheap.proofs.Common.{◌≡◌, ◌+◌, ◌<◌, ◌≤◌, ℕ, ℤ, suc, zero, Bool, true, false, List, [], ◌∷◌, ◌++◌, length, take, drop, Option, None, Some, IfSome, refl, sym, ap, ◌∙◌, append_assoc}
+use Rattle.dheap.proofs.Common.{append-nil, arith, slice_split, onto_first, AllWithin, HoldsAt, slice_split-cons_yes, slice_split-cons_no, length-slice_split, slice_split_none, All-from_all_within}
+use Rattle.dheap.proofs.Common.{Command, Say, CarryOut, CarryOutLine, IsFirstBad, lines_of, Fault, Line}
 use Rattle.std.proofs.lemmas.List.Sums.{count_by-le-length}
 use Rattle.dheap.specs.Faults.{TellsFirstBad}
 
@@ -21,7 +23,8 @@ Say-append (x ∷ xs) ys (l ∷ ls) ms h k = (h.0, Say-append xs ys ls ms h.1 k)
 Say-append xs ys ls ms h k = absurd h
 
 module _ {P : Type 0} (means : ℤ → P → Type 0) where
-  pub CarryOut-more : (commands more all : List (Command ℤ P)) (lines : List Line) (line : Line) → CarryOut means commands lines → CarryOutLine means more line → all ≡ commands ++ more → CarryOut means all (lines ++ line ∷ [])
+  pub CarryOut-more : (commands more all : List (Command ℤ P)) (lines : List Line) (line : Line) → CarryOut means commands lines → CarryOutLine means more line → all ≡ commands ++ more →
+      CarryOut means all (lines ++ line ∷ [])
   CarryOut-more commands more all [] line h k e = (more, [], e ∙ ap (λ c. c ++ more) h ∙ sym (append-nil more), k, refl)
   CarryOut-more commands more all (l ∷ ls) line (first, later, split, is, rest) k e =
       (first, later ++ more, e ∙ ap (λ c. c ++ more) split ∙ append_assoc first later more, is, CarryOut-more later more (later ++ more) ls line rest k refl)

@@ -1,5 +1,7 @@
 -- What a loop over replies has written.
-use Rattle.dheap.proofs.Common.{◌≡◌, ℕ, ℤ, suc, ◌<◌, ◌≤◌, ◌+◌, List, [], ◌∷◌, ◌++◌, Option, None, Some, All, is_some, cond, true, false, take, drop, length, get_or, refl, sym, ap, ◌∙◌, subst, append_assoc, append-nil, arith, map-append, take-append-drop, take_all, All-append, All-cons, All-head, All-nil, All-tail, Appends, append_known, answer, answered, line, text}
+use Rattle.dheap.proofs.Common.{◌≡◌, ℕ, ℤ, suc, ◌<◌, ◌≤◌, ◌+◌, List, [], ◌∷◌, ◌++◌, Option, None, Some, All, is_some, cond, true, false, take, drop, length, get_or, refl, sym, ap, ◌∙◌, subst}
+use Rattle.dheap.proofs.Common.{append_assoc, append-nil, arith, map-append, take-append-drop, take_all, All-append, All-cons, All-head, All-nil, All-tail, Appends, append_known, answer, answered}
+use Rattle.dheap.proofs.Common.{line, text}
 use Rattle.std.proofs.Math.Bool.{true≢false}
 use Rattle.std.proofs.Math.Seq.{drop-cons, take-suc}
 use Rattle.std.proofs.lemmas.List.Concat.{flat_map-append}
@@ -16,7 +18,8 @@ module _ {D : ℕ} (replies : List (Reply ℤ D)) (i : ℕ) (reply : Reply ℤ D
   read-next : read.replies (take (i + 1) replies) ≡ read.replies (take i replies) ++ read.reply reply ∷ []
   read-next =
       let suc_i : i + 1 ≡ suc i = omega arith in
-      ap (λ n. read.replies (take n replies)) suc_i ∙ ap (λ xs. read.replies xs) (take-suc replies i reply inside ∙ ap (λ x. take i replies ++ x ∷ []) (sym is)) ∙ map-append read.reply (take i replies) (reply ∷ [])
+      ap (λ n. read.replies (take n replies)) suc_i ∙ ap (λ xs. read.replies xs) (take-suc replies i reply inside ∙ ap (λ x. take i replies ++ x ∷ []) (sym is))
+      ∙ map-append read.reply (take i replies) (reply ∷ [])
 
   pub whole-next : is_some (answer (read.reply reply)) ≡ true → All IsAnswered (read.replies (take i replies)) → All IsAnswered (read.replies (take (i + 1) replies))
   whole-next told whole = subst (All IsAnswered) (sym read-next) (All-append IsAnswered _ _ whole (All-cons IsAnswered (read.reply reply) [] told (All-nil IsAnswered)))
@@ -40,7 +43,8 @@ line-none None none = refl
 line-none (Some says) none = absurd (true≢false none)
 
 -- the buffer is written out, and the output is flushed
-pub all_flushed : (a b c d : Option (List ℕ)) (buffer passed : List ℕ) (before all : List (machine.Reply ℤ)) → Appends a (append_known b buffer) (text before) → passed ≡ buffer → Appends b c passed → Keeps c d → before ≡ answered all → Appends a d (text (answered all))
+pub all_flushed : (a b c d : Option (List ℕ)) (buffer passed : List ℕ) (before all : List (machine.Reply ℤ)) → Appends a (append_known b buffer) (text before) → passed ≡ buffer →
+    Appends b c passed → Keeps c d → before ≡ answered all → Appends a d (text (answered all))
 all_flushed None b c d buffer passed before all p e q k is = tt
 all_flushed (Some x) None c d buffer passed before all p e q k is = absurd p
 all_flushed (Some x) (Some y) None d buffer passed before all p e q k is = absurd q
@@ -86,5 +90,6 @@ module _ {D : ℕ} (replies : List (Reply ℤ D)) (i : ℕ) where
     answered-here whole = sym (ap answered at-reply ∙ answered_before _ _ _ whole none)
 
 -- what is printed if each reply has an answer
-pub printed_by : (may : List ℕ → Type 0) (a b : Option (List ℕ)) (replies : List (machine.Reply ℤ)) → All IsAnswered replies → Appends a b (text (answered replies)) → may (text replies) → (printed : List ℕ) × may printed × Appends a b printed
+pub printed_by : (may : List ℕ → Type 0) (a b : Option (List ℕ)) (replies : List (machine.Reply ℤ)) → All IsAnswered replies → Appends a b (text (answered replies)) → may (text replies) →
+    (printed : List ℕ) × may printed × Appends a b printed
 printed_by may a b replies whole written law = (text replies, law, subst (λ rs. Appends a b (text rs)) (answered_all replies whole) written)

@@ -1,8 +1,12 @@
 -- What callers need besides the contracts.
-use Rattle.dary_heap.proofs.Common.{◌≢◌, ℕ, List, ◌∷◌, Some, ap, ◌∙◌, slice_get-get_or, get_or_from_slice_get, slice_get_within, Contains, Contains-permutation, IsPermutation, IsPermutation-sym}
+use Rattle.dary_heap.proofs.Common.{◌≢◌, ℕ, List, ◌∷◌, Some, length, refl, ap, RisesWithin, sink_bound, ◌∙◌, slice_get-get_or, get_or_from_slice_get, slice_get_within, Contains}
+use Rattle.dary_heap.proofs.Common.{Contains-permutation, IsPermutation, IsPermutation-sym}
 use Rattle.dary_heap.proofs.Bags.{Contains-later}
-use Rattle.indexed_heap.specs.Entries.{IsAbsent}
-pub use Rattle.indexed_heap.proofs.Reading.{none_there, one_item, item_of-absent, item_of-there, item_of-none, item_of-has, item_of-agrees, Gets-here, Gets-others, Gets-given, Loses-given, Loses-others, pop_loses}
+use Rattle.indexed_heap.specs.Entries.{InsertsWithin, IsAbsent, IsEntry}
+use Rattle.indexed_heap.proofs.Bounding.{within_sink}
+pub use Rattle.indexed_heap.proofs.Reading.{none_there, one_item, item_of-absent, item_of-there, item_of-none, item_of-has, item_of-agrees, Gets-here, Gets-others, Gets-given, Loses-given}
+pub use Rattle.indexed_heap.proofs.Reading.{Loses-others, pop_loses}
+pub use Rattle.indexed_heap.proofs.Mapping.{Gets-all, Loses-all, showing, item_of-map, IsAbsent-map, Loses-map, Gets-map, AreDistinct-map, InsertsWithin-map}
 pub use Rattle.indexed_heap.proofs.Removing.{still_absent}
 
 -- no entry that is there has a key that is absent
@@ -16,3 +20,8 @@ absent_left key old new entry bag h = record {
       let in' : Contains new slot = (i, slice_get_within new i slot there, get_or_from_slice_get new i slot slot there) in
       absent_apart key old slot h (Contains-permutation (entry ∷ new) old slot (IsPermutation-sym old (entry ∷ new) bag) (Contains-later entry new slot in'));
 }
+
+-- at any place an insert of a key with an item takes no more comparisons than sifting down the first of as many items
+pub insert_within_sink : {T : Type 0} (D key at before after : ℕ) (old : List (ℕ × T)) → IsEntry old at key → InsertsWithin D key old before after →
+    RisesWithin before after (sink_bound D (length old))
+insert_within_sink D key at before after old h counted = within_sink D at before after (length old) (length old) refl (slice_get_within old at h.entry h.there) (counted.held at h)

@@ -9,3 +9,4 @@ pub mod Callers
 pub mod Reading
 pub mod Iterating
 pub mod Copying
+pub mod Mapping

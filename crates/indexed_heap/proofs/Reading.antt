@@ -1,7 +1,9 @@
 -- The entries read as a map: the item of a key, and what each change of the entries makes of it.
-use Rattle.dary_heap.proofs.Common.{◌≡◌, ◌≢◌, ℕ, zero, suc, List, [], ◌∷◌, ◌++◌, Option, Some, None, if◌then◌else◌, refl, sym, ap, ◌∙◌, subst, arith, inl, inr, cases_eq, ne_eqb, slice_get, slice_get-get_or, slice_get_within, Contains, Contains-permutation, IsPermutation, IsPermutation-sym}
+use Rattle.dary_heap.proofs.Common.{◌≡◌, ◌≢◌, ℕ, zero, suc, List, [], ◌∷◌, ◌++◌, Option, Some, None, Result, Ok, Err, if◌then◌else◌, refl, sym, ap, ◌∙◌, subst, arith, inl, inr, cases_eq, ne_eqb}
+use Rattle.dary_heap.proofs.Common.{slice_get, slice_get-get_or, slice_get_within, Contains, Contains-permutation, IsPermutation, IsPermutation-sym}
 use Rattle.dary_heap.proofs.Callers.{Contains-cases, Contains-first, Contains-later, IsPermutation-uncons}
 use Rattle.std.proofs.lemmas.Bool.{eq-eqb}
+use Rattle.std.specs.Prelude.{IfOk}
 use Rattle.indexed_heap.specs.Entries.{AreDistinct, Gets, IsAbsent, Loses, entries_of, item_of}
 
 module _ {T : Type 0} where
@@ -67,7 +69,8 @@ module _ {T : Type 0} (key : ℕ) where
   pub item_of-has : (entries : List (ℕ × T)) (item : T) → AreDistinct entries → Contains entries (key, item) → item_of key entries ≡ Some item
   item_of-has entries item once in' = has_by entries item once in' (item_of key entries) refl
 
-  module _ (xs ys : List (ℕ × T)) (ys_once : AreDistinct ys) (to : (item : T) → Contains xs (key, item) → Contains ys (key, item)) (from : (item : T) → Contains ys (key, item) → Contains xs (key, item)) where
+  module _ (xs ys : List (ℕ × T)) (ys_once : AreDistinct ys) (to : (item : T) → Contains xs (key, item) → Contains ys (key, item))
+      (from : (item : T) → Contains ys (key, item) → Contains xs (key, item)) where
     agrees_by : (a b : Option T) → item_of key xs ≡ a → item_of key ys ≡ b → item_of key ys ≡ item_of key xs
     agrees_by (Some item) b e f = item_of-has ys item ys_once (to item (item_of-there xs item e)) ∙ sym e
     agrees_by None None e f = f ∙ sym e
@@ -120,6 +123,12 @@ module _ {T : Type 0} (key : ℕ) where
         | inr later ↦ later
       ] in
       sym (item_of-has key old had once was)
+
+  -- which an insert returns
+  pub given_is : {E : Type 0} (item : T) (old new : List (ℕ × T)) (result : Result (Option T) E) → IfOk result (λ given. Gets key item old given new) → AreDistinct old →
+      IfOk result (λ given. given ≡ item_of key old)
+  given_is item old new (Ok given) h once = Gets-given item old new given h once
+  given_is item old new (Err back) h once = tt
 
   -- a key that lost its item had the one that was given, and other keys have theirs
   pub Loses-given : (old new : List (ℕ × T)) (given : Option T) → Loses key old given new → AreDistinct old → given ≡ item_of key old

@@ -1,15 +1,18 @@
 -- A slot that is added behind the others, and one that is taken out, whose place the last slot takes.
-use Rattle.dary_heap.proofs.Common.{◌≡◌, ◌≢◌, ℕ, ◌+◌, ◌-◌, ◌<◌, ◌≤◌, List, [], ◌∷◌, ◌++◌, length, get_or, set, sym, ap, ◌∙◌, subst, arith, inl, inr, Some, slice_get, cases_eq, cases_lt, length-append, slice_get-get_or, slice_get_within, IsTotalOrder, Ordering, IsHeapOrdered, IsHeapOrderedButAt, IsPermutation, IsPermutation-sym, Contains, Contains-permutation, get_or_from_slice_get}
-use Rattle.dary_heap.proofs.Order.{reads, slice_get-append, slice_get-set_other}
+use Rattle.dary_heap.proofs.Common.{◌≡◌, ◌≢◌, ℕ, ◌+◌, ◌-◌, ◌<◌, ◌≤◌, List, [], ◌∷◌, ◌++◌, length, get_or, set, refl, sym, ap, ◌∙◌, subst, arith, inl, inr, Some, slice_get, cases_eq, cases_lt}
+use Rattle.dary_heap.proofs.Common.{length-append, slice_get-get_or, slice_get_within, IsTotalOrder, Ordering, IsHeapOrdered, IsHeapOrderedButAt, IsPermutation, IsPermutation-sym, Contains}
+use Rattle.dary_heap.proofs.Common.{Contains-permutation, get_or_from_slice_get}
+use Rattle.dary_heap.proofs.Order.{read, reads, slice_get-append, slice_get-set_other}
 use Rattle.dary_heap.proofs.Callers.{ordered_but_at}
 use Rattle.dary_heap.proofs.sift.Parts.{still_but_at, whole, within}
 use Rattle.std.proofs.lemmas.List.{get_or_push}
 use Rattle.indexed_heap.specs.Entries.{IsAbsent}
-use Rattle.indexed_heap.specs.Places.{AreRight}
+use Rattle.indexed_heap.specs.Places.{AreRight, AreRightButAt}
 use Rattle.indexed_heap.proofs.Placing.{distinct, has_place, slice_get-set_same}
 
 -- a slot for a key that has none comes behind the others
-pub added : {X : Type 0} (slots : List (ℕ × X)) (places : List ℕ) (new : ℕ × X) → AreRight slots places → IsAbsent new.0 slots → new.0 < length places → AreRight (slots ++ new ∷ []) (set places new.0 (length slots))
+added : {X : Type 0} (slots : List (ℕ × X)) (places : List ℕ) (new : ℕ × X) → AreRight slots places → IsAbsent new.0 slots → new.0 < length places →
+    AreRight (slots ++ new ∷ []) (set places new.0 (length slots))
 added slots places new h absent room = record {
   right = λ i slot there. elim (cases_lt i (length slots)) [
     | inl before ↦
@@ -25,13 +28,26 @@ added slots places new h absent room = record {
   ];
 }
 
+-- its place isn't written yet
+pub added_but_at : {X : Type 0} (slots : List (ℕ × X)) (places : List ℕ) (new : ℕ × X) → AreRight slots places → IsAbsent new.0 slots → new.0 < length places →
+    AreRightButAt (length slots) (slots ++ new ∷ []) places
+added_but_at slots places new h absent room =
+    let put : get_or (slots ++ new ∷ []) (length slots) new ≡ new = get_or_push slots new new (length slots) refl in
+    record {
+      slot = new;
+      there = slice_get-get_or (slots ++ new ∷ []) (length slots) new (omega (arith, length-append slots (new ∷ []))) ∙ ap Some put;
+      inside = room;
+      right = added slots places new h absent room;
+    }
+
 -- the item at the place is gone, and the last item stands there if it wasn't the last itself
 pub record Removes {X : Type 0} (xs ys : List X) (at : ℕ) : Type 0 where
   pub len : length ys + 1 ≡ length xs
   pub moved : at < length ys → slice_get ys at ≡ slice_get xs (length xs - 1)
   pub others : (k : ℕ) → k ≢ at → k < length ys → slice_get ys k ≡ slice_get xs k
 
-pub removes : {X : Type 0} (xs ys : List X) (at n : ℕ) → n ≡ length xs → length ys + 1 ≡ length xs → ((d : X) → at + 1 < n → get_or ys at d ≡ get_or xs (n - 1) d) → ((k : ℕ) (d : X) → k ≢ at → k + 1 < n → get_or ys k d ≡ get_or xs k d) → Removes xs ys at
+pub removes : {X : Type 0} (xs ys : List X) (at n : ℕ) → n ≡ length xs → length ys + 1 ≡ length xs → ((d : X) → at + 1 < n → get_or ys at d ≡ get_or xs (n - 1) d) →
+    ((k : ℕ) (d : X) → k ≢ at → k + 1 < n → get_or ys k d ≡ get_or xs k d) → Removes xs ys at
 removes xs ys at n n_is len moved others = record {
   len = len;
   moved = λ inside. reads xs ys at (length xs - 1) inside (omega (arith, len)) (λ d. moved d (omega (arith, n_is, len, inside)) ∙ ap (λ k. get_or xs (k - 1) d) n_is);
@@ -39,11 +55,11 @@ removes xs ys at n n_is len moved others = record {
 }
 
 module _ {X : Type 0} (xs ys : List (ℕ × X)) (places : List ℕ) (at : ℕ) (h : AreRight xs places) (r : Removes xs ys at) where
-  -- the place of the slot that moved is written
-  pub moved_has_place : (x : ℕ × X) → at < length ys → slice_get ys at ≡ Some x → x.0 < length places
+  -- the place of the slot that moved isn't written yet
+  moved_has_place : (x : ℕ × X) → at < length ys → slice_get ys at ≡ Some x → x.0 < length places
   moved_has_place x inside x_is = has_place h (length xs - 1) x (sym (r.moved inside) ∙ x_is)
 
-  pub moved_right : (x : ℕ × X) → at < length ys → slice_get ys at ≡ Some x → AreRight ys (set places x.0 at)
+  moved_right : (x : ℕ × X) → at < length ys → slice_get ys at ≡ Some x → AreRight ys (set places x.0 at)
   moved_right x inside x_is = record {
     right = λ i slot there. elim (cases_eq i at) [
       | inl here ↦
@@ -57,6 +73,11 @@ module _ {X : Type 0} (xs ys : List (ℕ × X)) (places : List ℕ) (at : ℕ) (
           slice_get-set_other places x.0 slot.0 at other ∙ h.right i slot was
     ];
   }
+
+  pub moved_but_at : at < length ys → AreRightButAt at ys places
+  moved_but_at inside =
+      let x = read ys at inside in
+      record { slot = x.0; there = x.1; inside = moved_has_place x.0 inside x.1; right = moved_right x.0 inside x.1 }
 
   -- or it was the last
   pub last_right : length ys ≤ at → AreRight ys places

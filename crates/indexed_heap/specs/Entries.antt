@@ -1,11 +1,11 @@
 -- What a caller sees of an indexed heap: its entries. An entry is a key with its item.
-use Rattle.std.specs.Prelude.{◌≡◌, ◌≢◌, ℕ, ◌∷◌, ◌++◌, Bool, List, [], Option, Some, None, IfSome, IfNone, Contains, slice_get, if◌then◌else◌, ◌==◌}
+use Rattle.std.specs.Prelude.{◌≡◌, ◌≢◌, ℕ, ◌∷◌, ◌++◌, Bool, List, [], Option, Some, None, IfSome, IfNone, Contains, length, slice_get, if◌then◌else◌, ◌==◌}
 use Rattle.std.specs.Fn.{FnOnceReturns, Once}
 use denote.Ref.{Bor}
 use Rattle.std.specs.declared.cmp.Ordering.{Ordering}
 use Rattle.std.specs.declared.cmp.Ordering.TheVariants.{Greater}
 use Rattle.dary_heap.specs.Bag.{IsSameBag}
-use Rattle.dary_heap.specs.Bounds.{push_bound, sink_bound}
+use Rattle.dary_heap.specs.Bounds.{RisesWithin, fix_bound, push_bound}
 use Rattle.dary_heap.specs.HeapOrder.{IsHeapOrdered}
 
 -- entries are ordered by their items alone
@@ -59,10 +59,10 @@ pub record Gets {T : Type 0} (key : ℕ) (item : T) (old : List (ℕ × T)) (giv
   pub absent : IfNone given (IsAbsent key old)
   pub has : Contains new (key, item)
 
--- comparisons of an insert into n entries, of a key that had an item or had none
-abbrev pub insert_bound : {T : Type 0} → ℕ → ℕ → Option T → ℕ
-insert_bound D n None = push_bound D n
-insert_bound D n (Some item) = sink_bound D n
+-- comparisons of an insert: at most those of a push if the key had no item, and else those of a fix at its place
+pub record InsertsWithin {T : Type 0} (D key : ℕ) (old : List (ℕ × T)) (before after : ℕ) : Type 0 where
+  pub new : IsAbsent key old → RisesWithin before after (push_bound D (length old))
+  pub held : (at : ℕ) → IsEntry old at key → RisesWithin before after (fix_bound D (length old) at)
 
 module _ {T : Type 0} (order : ℕ × T → ℕ × T → Ordering) (key : ℕ) (item : T) where
   -- the key had no item, or one that this item exceeds, and has this one now

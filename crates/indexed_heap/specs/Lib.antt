@@ -1,3 +1,4 @@
+pub mod Drain
 pub mod Entries
 pub mod Iterating
 pub mod Making

@@ -28,23 +28,26 @@
 //! | method | comparisons, at most |
 //! |---|---|
 //! | [`insert`](IndexedHeap::insert) of a key without an item | the depth of the new place: *O*(log *n*) |
-//! | [`insert`](IndexedHeap::insert) of a key with an item | the depth of its place, and `D` for each step from there down to the last place |
+//! | [`insert`](IndexedHeap::insert) of a key with an item | the depth of its place, and `D` for each level from there down to that of the last place |
 //! | [`raise`](IndexedHeap::raise) | one more than the depth of a new place |
-//! | [`pop`](IndexedHeap::pop), [`pop_if`](IndexedHeap::pop_if), [`remove`](IndexedHeap::remove) | `D` times the depth of the last place: *O*(log *n*) |
+//! | [`pop`](IndexedHeap::pop), [`pop_if`](IndexedHeap::pop_if), [`remove`](IndexedHeap::remove) | `D` times the depth of the last place that remains: *O*(log *n*) |
 //! | an item of [`into_iter_sorted`](IndexedHeap::into_iter_sorted) | as `pop` |
-//! | [`get`](IndexedHeap::get), [`peek`](IndexedHeap::peek), [`iter`](IndexedHeap::iter), [`clone`](IndexedHeap::clone), [`reserve`](IndexedHeap::reserve) and the heap's other methods | none |
+//! | [`get`](IndexedHeap::get), [`peek`](IndexedHeap::peek), [`iter`](IndexedHeap::iter), [`drain`](IndexedHeap::drain), [`clone`](IndexedHeap::clone), [`reserve`](IndexedHeap::reserve) and the heap's other methods | none |
 //!
 //! # Modules
 //!
 //! [`heap`] has the heap, and [`iter`] its iterators. They stand on a table of places, in which each move of an entry
 //! is written down, and that on the crate `dary_heap`, whose judges compare the items.
+//! [`choice`] has the choice of the greatest child, which the library for C uses too.
 #![tactic(auto)]
 
+pub mod choice;
 pub mod heap;
 pub mod iter;
 mod judge;
 mod moves;
 mod table;
+mod tree;
 
 pub use heap::IndexedHeap;
-pub use iter::{IntoIterSorted, Iter};
+pub use iter::{Drain, IntoIter, IntoIterSorted, Iter};

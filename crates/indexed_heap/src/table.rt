@@ -5,7 +5,7 @@ ghost use Rattle.std.specs.declared.cmp.Ordering.TheVariants.{Greater};
 ghost use Rattle.dary_heap.specs.Bag.{IsSameBag};
 ghost use Rattle.dary_heap.specs.Bounds.{RisesWithin, fix_bound, pop_bound, push_bound};
 ghost use Rattle.dary_heap.specs.HeapOrder.{IsHeapOrdered, depth};
-ghost use Rattle.indexed_heap.specs.Entries.{Gets, IsAbsent, IsEntry, IsReached, Loses, Raises, insert_bound};
+ghost use Rattle.indexed_heap.specs.Entries.{Gets, InsertsWithin, IsAbsent, IsEntry, IsReached, Loses, Raises};
 ghost use Rattle.indexed_heap.specs.Places.{AreRight};
 
 use crate::moves::{fix, sift_up};
@@ -33,7 +33,8 @@ pub(crate) fn place_of<T>(slots: &[(usize, T)], places: &[usize], key: usize) ->
     Some(at)
 }
 
-/// Reserves room for one more slot and for the place of a key.
+/// Reserves room for one more slot and for the place of a key. Returns `false` if memory allocation fails, or if the
+/// key is `usize::MAX`.
 fn make_room<T>(slots: &mut Vec<(usize, T)>, places: &mut Vec<usize>, key: usize) -> bool
     requires { AreRight slots.old.items places.old.items }
     ensures slots { slots.new.items ≡ slots.old.items }
@@ -58,7 +59,7 @@ fn make_room<T>(slots: &mut Vec<(usize, T)>, places: &mut Vec<usize>, key: usize
     key < usize::MAX && places.resize(key + 1, 0).is_ok()
 }
 
-/// Makes room for more slots, unless there is room for so many.
+/// Makes room for `additional` more slots, unless there is that much already.
 fn grow<T>(slots: &mut Vec<(usize, T)>, additional: usize) -> Result<(), AllocError>
     ensures items { slots.new.items ≡ slots.old.items }
     ensures room { OnOk result (vec_len slots.new + additional ≤ vec_capacity slots.new) }
@@ -149,7 +150,6 @@ pub(crate) fn add<T, J: Judge<(usize, T)>, const D: usize>(
     }
     let place = slots.len();
     slots.push_reserved((key, item));
-    places[key] = place;
     sift_up::<T, J, D>(slots.as_mut_slice(), places.as_mut_slice(), place, judge);
     Ok(())
 }
@@ -198,7 +198,6 @@ pub(crate) fn take_out<T, J: Judge<(usize, T)>, const D: usize>(
 {
     let slot = slots.swap_remove(at);
     if at < slots.len() {
-        places[slots[at].0] = at;
         fix::<T, J, D>(slots.as_mut_slice(), places, at, judge);
     }
     slot
@@ -216,11 +215,8 @@ pub(crate) fn set<T, J: Judge<(usize, T)>, const D: usize>(
     ensures gets { IfOk result (λ given. Gets key item slots.old.items given slots.new.items) }
     ensures ordered { IsHeapOrdered J.order D slots.old.items
         → IsHeapOrdered J.order D slots.new.items }
-    ensures counted { IfOk result (λ given. RisesWithin (J.count judge.old) (J.count judge.new)
-        (insert_bound D (length slots.old.items) given)) }
-    ensures fixed { (at : ℕ) → IsEntry slots.old.items at key
-        → RisesWithin (J.count judge.old) (J.count judge.new)
-        (fix_bound D (length slots.old.items) at) }
+    ensures counted { OnOk result (InsertsWithin D key slots.old.items (J.count judge.old)
+        (J.count judge.new)) }
     ensures right { AreRight slots.new.items places.new.items }
     ensures capacity { vec_capacity slots.old ≤ vec_capacity slots.new }
     ensures keys { vec_len places.old ≤ vec_len places.new }

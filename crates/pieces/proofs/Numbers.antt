@@ -12,7 +12,8 @@ use Rattle.dary_heap_pieces.specs.declared.table.Merge.{Merge}
 use Rattle.pieces.specs.Names.{Adds, AreBelow, AreBytes, AreTexts, IsNamed, LeadTo, Names}
 use Rattle.pieces.specs.Words.{words_of}
 
-other_entries : {K X : Type 0} (eq : K → K → Bool) (test : K → Bool) (old new : List (K × X)) → KeepsOthers eq test old new → (other : K → Bool) → IsKeyTest eq other → AreApart test other → lookup other new ≡ lookup other old
+other_entries : {K X : Type 0} (eq : K → K → Bool) (test : K → Bool) (old new : List (K × X)) → KeepsOthers eq test old new → (other : K → Bool) → IsKeyTest eq other → AreApart test other →
+    lookup other new ≡ lookup other old
 unfolding KeepsOthers
 other_entries eq test old new h = h
 

@@ -1,5 +1,6 @@
 -- How a text is parted.
-use Rattle.std.proofs.Common.{◌≡◌, ◌==◌, ◌+◌, ◌<◌, ◌≤◌, not, cond, ℕ, zero, suc, Bool, true, false, List, [], ◌∷◌, length, take, drop, filter, get_or, length-drop, length-take, ◌-◌, refl, subst, sym, ap, ◌∙◌, arith}
+use Rattle.std.proofs.Common.{◌≡◌, ◌==◌, ◌+◌, ◌<◌, ◌≤◌, not, cond, ℕ, zero, suc, Bool, true, false, List, [], ◌∷◌, length, take, drop, filter, get_or, length-drop, length-take, ◌-◌, refl, subst}
+use Rattle.std.proofs.Common.{sym, ap, ◌∙◌, arith}
 use Rattle.std.proofs.lemmas.Bool.{ne_eqb}
 use Rattle.std.proofs.lemmas.List.{get_or-drop, take_rest}
 use Rattle.std.proofs.lemmas.List.Elements.{All-from_all_within}
@@ -66,7 +67,8 @@ module _ (text : List ℕ) (start : ℕ) (inside : start < length text) (blanks 
         let next : suc end ≡ end + 1 = omega arith in
         let left = drop start text in
         subst
-        (λ w. end < length w → AllWithin (λ b. is_blank b ≡ false) w 0 end → HoldsAt (λ b. is_blank b ≡ true) w end → words_of text ≡ take end w ∷ words_of (take (length w - (end + 1)) (drop (end + 1) w)))
+        (λ w. end < length w → AllWithin (λ b. is_blank b ≡ false) w 0 end → HoldsAt (λ b. is_blank b ≡ true) w end →
+        words_of text ≡ take end w ∷ words_of (take (length w - (end + 1)) (drop (end + 1) w)))
         (sym rest)
         (λ within before blank.
         past_blanks text start blanks (omega (arith, inside)) ∙ word-then end within before blank ∙ ap (λ n. take end left ∷ words_of (drop n left)) next

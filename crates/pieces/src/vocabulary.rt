@@ -1,5 +1,5 @@
 //! The pieces that a table names, and their merges.
-ghost use Rattle.std.specs.Prelude.{◌≡◌, ◌++◌, ◌<◌, ◌^◌, ◌≤◌, length, [], ◌∷◌, false, IfOk, IfSome, IfNone, OnOk, IsTrue, MatchOption};
+ghost use Rattle.std.specs.Prelude.{◌≡◌, ◌<◌, ◌^◌, ◌≤◌, length, [], ◌∷◌, false, IfOk, IfSome, IfNone, OnOk, IsTrue, MatchOption};
 ghost use Rattle.pieces.specs.Names.{Adds, AreBytes, AreTexts, IsAdded, IsBad, IsNamed, IsRefused, Says, names_of};
 ghost use Rattle.pieces.specs.Words.{is_blank, lines_left, lines_of, words_of};
 

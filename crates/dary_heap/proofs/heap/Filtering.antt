@@ -1,10 +1,13 @@
 -- A predicate that is asked about the items of a list, one after another.
-use Rattle.dary_heap.proofs.{◌≡◌, ℕ, zero, suc, ◌+◌, ◌<◌, ◌≤◌, Bool, true, false, List, [], ◌∷◌, ◌++◌, length, get_or, refl, sym, ap, ◌∙◌, subst, arith, Some, slice_get, take, drop, take_more, slice_get_within, get_or_from_slice_get, Mut, TakesAt, CalledAt, Bor, items_where_true, ReturnsInTurn, TakesInTurn, first_no, bool_byte, ◌&&◌, nat_eq, set, swap, take_all, exchanges, length-take, take-set-le, swap_is}
+use Rattle.dary_heap.proofs.{◌≡◌, ℕ, zero, suc, ◌+◌, ◌<◌, ◌≤◌, Bool, true, false, List, [], ◌∷◌, ◌++◌, length, get_or, refl, sym, ap, ◌∙◌, subst, arith, Some, slice_get, take, drop, take_more}
+use Rattle.dary_heap.proofs.{slice_get_within, get_or_from_slice_get, Mut, TakesAt, CalledAt, Bor, items_where_true, ReturnsInTurn, TakesInTurn, first_no, bool_byte, ◌&&◌, nat_eq, set, swap}
+use Rattle.dary_heap.proofs.{take_all, exchanges, length-take, take-set-le, swap_is}
 use Rattle.std.proofs.Retain.{answers_push, picked_push_true}
 use Rattle.std.proofs.Math.Dec.{eqb-suc-suc, eqb-zero-suc}
 
 -- one item more, by the answer for it
-pub ReturnsInTurn-more : {X P : Type 0} (R : P → X → Bool → P → Type 0) (p q r : P) (bs : List Bool) (b : Bool) (xs : List X) (x : X) → slice_get xs (length bs) ≡ Some x → ReturnsInTurn R p bs xs q → R q x b r → ReturnsInTurn R p (bs ++ b ∷ []) xs r
+pub ReturnsInTurn-more : {X P : Type 0} (R : P → X → Bool → P → Type 0) (p q r : P) (bs : List Bool) (b : Bool) (xs : List X) (x : X) → slice_get xs (length bs) ≡ Some x →
+    ReturnsInTurn R p bs xs q → R q x b r → ReturnsInTurn R p (bs ++ b ∷ []) xs r
 ReturnsInTurn-more R p q r bs b xs x at told next = answers_push R p q r bs xs x b (slice_get_within xs (length bs) x at) (sym (get_or_from_slice_get xs (length bs) x x at)) told next
 
 module _ {X : Type 0} where
@@ -33,7 +36,8 @@ first_no-more (false ∷ bs) true = omega (arith, ap bool_byte (eqb-zero-suc (le
 first_no-more (false ∷ bs) false = refl
 
 -- the next item may be asked about, and then those after it
-pub next_asked : {X P : Type 0} (calls : Mut P (Bor X × Unit {0}) Bool) (f : P) (old : List X) (place : ℕ) (x : X) → slice_get old place ≡ Some x → TakesInTurn calls f (drop place old) → TakesAt calls f x × ((answer : Bool) (after : P) → CalledAt calls f x answer after → TakesInTurn calls after (drop (suc place) old))
+pub next_asked : {X P : Type 0} (calls : Mut P (Bor X × Unit {0}) Bool) (f : P) (old : List X) (place : ℕ) (x : X) → slice_get old place ≡ Some x → TakesInTurn calls f (drop place old) →
+    TakesAt calls f x × ((answer : Bool) (after : P) → CalledAt calls f x answer after → TakesInTurn calls after (drop (suc place) old))
 next_asked calls f [] place x at h = cc
 next_asked {P = P} calls f (y ∷ old) zero x at h =
     let same : y ≡ x = (cc) in
@@ -42,7 +46,8 @@ next_asked calls f (y ∷ old) (suc place) x at h = next_asked calls f old place
 
 -- items that change places behind a front leave it as it is
 pub take-before : {X : Type 0} (xs ys : List X) (k p : ℕ) (x : X) → k ≤ p → p < length xs → ys ≡ swap xs k p → take k ys ≡ take k xs
-take-before xs ys k p x le within is = ap (take k) (is ∙ sym (swap_is xs k p x (omega arith) within)) ∙ take-set-le k (set xs k (get_or xs p x)) p (get_or xs k x) le ∙ take-set-le k xs k (get_or xs p x) (omega arith)
+take-before xs ys k p x le within is =
+    ap (take k) (is ∙ sym (swap_is xs k p x (omega arith) within)) ∙ take-set-le k (set xs k (get_or xs p x)) p (get_or xs k x) le ∙ take-set-le k xs k (get_or xs p x) (omega arith)
 
 -- an item that is brought to the end of the front
 pub take-brought : {X : Type 0} (xs ys : List X) (k p : ℕ) (x : X) → k ≤ p → p < length xs → slice_get xs p ≡ Some x → ys ≡ swap xs k p → take (k + 1) ys ≡ take k xs ++ x ∷ []

@@ -3,10 +3,13 @@
 --     Whole, Hollow, row_of     the types of the two, and what both own
 --     size_fits, offset_fits     an offset into a row does not overflow
 --     row_out, row_found, row_in     a row is taken from its two words, at a block or at any pointer, and put back
-use Rattle.dary_heap.proofs.hole.Walks.{ℕ, ◌*◌, ◌<◌, ◌^◌, Bool, true, false, List, [], ◌∷◌, ◌≡◌, refl, sym, ap, ◌∙◌, arith, length, get_or, set, length-set, length-replicate, get_or-replicate, Ura, Fml, fsep, ent, never, w64, Val, WT, vint, vstruct, vcons, vnil, Goal, Step, step, Seq, Item, ‵, ◌$◌, ◌∵◌, !, qed, drop, fsplit, fjoin, flt_l, flt_i, done, Logic, sem, Is, Tells, shows, uint_vals, uint_Tells, RattleType, Ptr, block_ptr, null_ptr, ptr_val, in_a_block, rawptr_vals, rawptr_Tells, pure_i, Room, facts, RawPtr-laws, usize-laws, shape, Struct, Struct-Tells, ◌≢◌, El, R, el_x, times_below, one_below, sz, owned, slots}
+use Rattle.dary_heap.proofs.hole.Walks.{ℕ, ◌*◌, ◌<◌, ◌^◌, Bool, true, false, List, [], ◌∷◌, ◌≡◌, refl, sym, ap, ◌∙◌, arith, length, get_or, set, length-set, length-replicate, get_or-replicate, Ura}
+use Rattle.dary_heap.proofs.hole.Walks.{Fml, fsep, ent, never, w64, Val, WT, vint, vstruct, vcons, vnil, Goal, Step, step, Seq, Item, ‵, ◌$◌, ◌∵◌, !, qed, drop, fsplit, fjoin, flt_l, flt_i, done}
+use Rattle.dary_heap.proofs.hole.Walks.{Logic, sem, Is, Tells, shows, uint_vals, uint_Tells, RattleType, Ptr, block_ptr, null_ptr, ptr_val, in_a_block, rawptr_vals, rawptr_Tells, pure_i, Room}
+use Rattle.dary_heap.proofs.hole.Walks.{facts, RawPtr-laws, usize-laws, shape, Struct, Struct-Tells, ◌≢◌, El, R, el_x, times_below, one_below, sz, owned, slots}
 use lib.Seq.{set-set, set_comm, set-get_or, get_or-set_other}
 use denote.Struct.OwningLaws.{Tells-lowered}
-use Rattle.dary_heap.specs.Places.{all_filled, filled_but}
+use Rattle.dary_heap.specs.hole.Places.{all_filled, filled_but}
 use Rattle.dary_heap.specs.declared.hole.places.Places.{Places}
 use Rattle.dary_heap.specs.contracts.hole.places.Hole as O
 use Rattle.dary_heap.specs.contracts.hole.places.Places as P

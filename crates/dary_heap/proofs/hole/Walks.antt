@@ -19,7 +19,8 @@ pub use contract.Lifetimes.{Lfts}
 pub use contract.Monad.{fact, Fun, fact_i}
 pub use contract.Running.{tables, Running, MachineTables}
 pub use types.ByLocal.{alloc_all, pass_all, free_all, look_at, get, get_in, through, sets, sets_last, env, look_in_at, lands_as}
-pub use types.Kit.{‵, raw, ◌⊛◌, some, given, prop, at_ret, ◌$◌, ◌∵◌, !, qed, move, keep, drop, use1, use2, split, split3, fsplit, fjoin, fjoin3, fpack, feq_i, group, pick, learn, regoal, suffices, done, use3, fsplit3, rewrite, join, later, use0, fpick, feq_l, await, Goal, Step, step, Seq, Item, flt_l, flt_i, frame}
+pub use types.Kit.{‵, raw, ◌⊛◌, some, given, prop, at_ret, ◌$◌, ◌∵◌, !, qed, move, keep, drop, use1, use2, split, split3, fsplit, fjoin, fjoin3, fpack, feq_i, group, pick, learn, regoal, suffices}
+pub use types.Kit.{done, use3, fsplit3, rewrite, join, later, use0, fpick, feq_l, await, Goal, Step, step, Seq, Item, flt_l, flt_i, frame}
 pub use types.Logic.{Logic, sem}
 pub use types.Part.{whole, sub, agg, look_in}
 pub use types.Run.{look, forget, stop, fld, load, size_lit, of_opd, bin, and_then, no_more, first, blocks, exec, returns, enter, init, assigns, addr, unit_lit, assigns_last, hop, from}

@@ -1,5 +1,7 @@
 -- The items of a heap whose first is on loan, and what sifting it down tells of them.
-use Rattle.dary_heap.proofs.{◌≡◌, ◌↔◌, ℕ, zero, suc, ◌+◌, ◌-◌, ◌*◌, ◌<◌, ◌≤◌, Bool, true, false, List, [], ◌∷◌, length, refl, sym, ap, ◌∙◌, subst, arith, Some, IsTrue, slice_get, Contains, slice_get_within, get_or_from_slice_get, OnFalse, IsTotalOrder, Ordering, RisesWithin, sink_bound, arity, depth, IsHeapOrdered, HasGreaterChild, IsExceeded, depth-zero, first_is_greatest, Contains-later}
+use Rattle.dary_heap.proofs.{◌≡◌, ◌↔◌, ℕ, zero, suc, ◌+◌, ◌-◌, ◌*◌, ◌<◌, ◌≤◌, Bool, true, false, List, [], ◌∷◌, length, refl, sym, ap, ◌∙◌, subst, arith, Some, IsTrue, slice_get, Contains}
+use Rattle.dary_heap.proofs.{slice_get_within, get_or_from_slice_get, OnFalse, IsTotalOrder, Ordering, RisesWithin, sink_bound, arity, depth, IsHeapOrdered, HasGreaterChild, IsExceeded, depth-zero}
+use Rattle.dary_heap.proofs.{first_is_greatest, Contains-later}
 
 -- sifting down one item alone compares nothing
 pub lone_uncounted : (D n a b : ℕ) → n ≡ 1 → RisesWithin a b (sink_bound D n) → b ≡ a
@@ -39,6 +41,7 @@ module _ {X : Type 0} {cmp : X → X → Ordering} (D : ℕ) where
   sunk_unmoved xs new true says still none = absurd (none (exceeds xs (says.0 refl)))
   sunk_unmoved xs new false says still none = still
 
-  pub sunk_moved : IsTotalOrder cmp → (xs new : List X) (moved : Bool) → (IsTrue moved ↔ HasGreaterChild cmp D 0 xs) → OnFalse moved (new ≡ xs) → IsHeapOrdered cmp D new → IsTrue moved ↔ IsExceeded cmp xs
+  pub sunk_moved : IsTotalOrder cmp → (xs new : List X) (moved : Bool) → (IsTrue moved ↔ HasGreaterChild cmp D 0 xs) → OnFalse moved (new ≡ xs) → IsHeapOrdered cmp D new → IsTrue moved ↔
+      IsExceeded cmp xs
   sunk_moved total xs new true says still ordered = (λ m. exceeds xs (says.0 m), λ over. refl)
   sunk_moved total xs new false says still ordered = (λ m. exceeds xs (says.0 m), λ over. absurd (none_exceeds total xs (subst (IsHeapOrdered cmp D) still ordered) over))

@@ -1,5 +1,7 @@
 -- A run goes on by one command. What it asks of the caller, and the items that it brings in, are among those of all commands.
-use Rattle.dary_heap.proofs.Common.{◌≡◌, ℕ, ◌+◌, ◌≤◌, Bool, List, [], ◌∷◌, ◌++◌, length, refl, ap, arith, Ordering, charge, Contents, Command, Reply, Step, Steps, last_state, IsState, IsServed, Runs, Serves, room, sure_after, All, Contains, sym, subst, append_assoc, All-contains, All-contains_itself, All-weaker, Contains-append_left, Contains-append_right, Mut, Bor, IsCallableOn, items_in, predicates_in, zero-le}
+use Rattle.dary_heap.proofs.Common.{◌≡◌, ℕ, ◌+◌, ◌≤◌, Bool, List, [], ◌∷◌, ◌++◌, length, refl, ap, arith, Ordering, charge, Contents, Command, Reply, Step, Steps, last_state, IsState, IsServed}
+use Rattle.dary_heap.proofs.Common.{Runs, Serves, room, sure_after, All, Contains, sym, subst, append_assoc, All-contains, All-contains_itself, All-weaker, Contains-append_left}
+use Rattle.dary_heap.proofs.Common.{Contains-append_right, Mut, Bor, IsCallableOn, items_in, predicates_in, zero-le}
 use Rattle.dary_heap.specs.Bounds.{charges}
 use Rattle.dary_heap.specs.Run.{PushesServed, sure_at_end}
 use Rattle.dary_heap.specs.Machine as machine
@@ -11,7 +13,8 @@ module _ {T P : Type 0} (cmp : T → T → Ordering) (calls : P → T → Bool �
       → Step cmp calls (last_state old states) command reply new
       → Steps cmp calls old (commands ++ command ∷ []) (replies ++ reply ∷ []) (states ++ new ∷ [])
       × (last_state old (states ++ new ∷ []) ≡ new)
-      × (charges D old (commands ++ command ∷ []) (replies ++ reply ∷ []) (states ++ new ∷ []) ≡ charges D old commands replies states + charge D (length (last_state old states)) command reply (length new))
+      × (charges D old (commands ++ command ∷ []) (replies ++ reply ∷ []) (states ++ new ∷ []) ≡ charges D old commands replies states + charge D (length (last_state old states)) command reply
+      (length new))
       × (PushesServed sure commands replies → IsServed (sure_at_end sure commands replies) command reply → PushesServed sure (commands ++ command ∷ []) (replies ++ reply ∷ []))
       × (sure_at_end sure (commands ++ command ∷ []) (replies ++ reply ∷ []) ≡ sure_after (sure_at_end sure commands replies) command reply)
   more sure old new [] [] [] command reply run step = ((step, tt), refl, omega arith, (λ served one. (one, tt)), refl)
@@ -36,7 +39,8 @@ module _ {T P : Type 0} {cmp : T → T → Ordering} {calls : P → T → Bool �
   pub Runs-begins : (heap : Contents T) → IsState cmp heap.items → Runs cmp calls D heap [] [] heap
   Runs-begins heap state = record { states = []; begins = state; run = tt; ends = refl; charged = record { rises = omega arith; within = omega arith }; served = tt; sure = omega arith }
 
-  pub Runs-more : {old mid new : Contents T} {commands : List (Command T P)} {replies : List (Reply T)} {command : Command T P} {reply : Reply T} → Runs cmp calls D old commands replies mid → Serves cmp calls D mid command reply new → Runs cmp calls D old (commands ++ command ∷ []) (replies ++ reply ∷ []) new
+  pub Runs-more : {old mid new : Contents T} {commands : List (Command T P)} {replies : List (Reply T)} {command : Command T P} {reply : Reply T} → Runs cmp calls D old commands replies mid →
+      Serves cmp calls D mid command reply new → Runs cmp calls D old (commands ++ command ∷ []) (replies ++ reply ∷ []) new
   Runs-more {old} {new = new} {commands} {replies} {command} {reply} runs serves =
       let h = more cmp calls D (room old) old.items new.items commands replies runs.states command reply runs.run (rw runs.ends serves.step) in
       let last = ap (λ xs. charge D (length xs) command reply (length new.items)) runs.ends in
@@ -51,7 +55,8 @@ module _ {T P : Type 0} {cmp : T → T → Ordering} {calls : P → T → Bool �
       }
 
 -- what one of many gives is among what all give
-of_one : {A B : Type 0} (f : List A → List B) (joins : (xs ys : List A) → f (xs ++ ys) ≡ f xs ++ f ys) (before : List A) (one : A) (after : List A) (x : B) → Contains (f (one ∷ [])) x → Contains (f (before ++ (one ∷ after))) x
+of_one : {A B : Type 0} (f : List A → List B) (joins : (xs ys : List A) → f (xs ++ ys) ≡ f xs ++ f ys) (before : List A) (one : A) (after : List A) (x : B) → Contains (f (one ∷ [])) x →
+    Contains (f (before ++ (one ∷ after))) x
 of_one f joins before one after x in' =
     let first = subst (λ xs. Contains xs x) (sym (joins (one ∷ []) after)) (Contains-append_left (f (one ∷ [])) (f after) x in') in
     subst (λ xs. Contains xs x) (sym (joins before (one ∷ after))) (Contains-append_right (f before) _ x first)
@@ -68,7 +73,8 @@ module _ {T P : Type 0} where
   predicates_in-append (command ∷ xs) ys = simp (predicates_in-append xs ys)
 
   -- the items of one command are among those of all
-  pub items_of_one : (before : List (Command T P)) (command : Command T P) (after : List (Command T P)) (x : T) → Contains (items_in (command ∷ [])) x → Contains (items_in (before ++ (command ∷ after))) x
+  pub items_of_one : (before : List (Command T P)) (command : Command T P) (after : List (Command T P)) (x : T) → Contains (items_in (command ∷ [])) x →
+      Contains (items_in (before ++ (command ∷ after))) x
   items_of_one before command after x in' = of_one items_in items_in-append before command after x in'
 
   module _ (calls : Mut P (Bor T × Unit {0}) Bool) where
@@ -76,8 +82,10 @@ module _ {T P : Type 0} where
     IsCallableOn-fewer pool items p among h = record { in_turn = λ xs in'. h.in_turn xs (λ x here. among x (in' x here)) }
 
     -- the predicates of one command may be called where those of all may be
-    pub callable_one : (pool items : List T) (before : List (Command T P)) (command : Command T P) (after : List (Command T P)) → ((x : T) → Contains items x → Contains pool x) → All (IsCallableOn calls pool) (predicates_in (before ++ (command ∷ after))) → All (IsCallableOn calls items) (predicates_in (command ∷ []))
+    pub callable_one : (pool items : List T) (before : List (Command T P)) (command : Command T P) (after : List (Command T P)) → ((x : T) → Contains items x → Contains pool x) →
+        All (IsCallableOn calls pool) (predicates_in (before ++ (command ∷ after))) → All (IsCallableOn calls items) (predicates_in (command ∷ []))
     callable_one pool items before command after among h =
         let wanted = predicates_in (command ∷ []) in
-        let callable = λ (p : P) (in' : Contains wanted p). IsCallableOn-fewer pool items p among (All-contains (IsCallableOn calls pool) _ p h (of_one predicates_in predicates_in-append before command after p in')) in
+        let callable = λ (p : P) (in' : Contains wanted p). IsCallableOn-fewer pool items p among
+        (All-contains (IsCallableOn calls pool) _ p h (of_one predicates_in predicates_in-append before command after p in')) in
         All-weaker (Contains wanted) (IsCallableOn calls items) callable wanted (All-contains_itself wanted)

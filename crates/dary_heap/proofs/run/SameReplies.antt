@@ -1,5 +1,9 @@
 -- Without ties, questions and refusals, two runs from the same bag give the same replies and leave the same bag: their states are the same ones, and so both may be read from the first.
-use Rattle.dary_heap.proofs.Common.{◌≡◌, ◌≢◌, ℕ, zero, suc, Bool, true, false, List, [], ◌∷◌, ◌++◌, refl, sym, ap, ◌∙◌, subst, arith, Option, Some, None, AllByRecursion, IsTotalOrder, Ordering, Equal, Greater, Contains-append_left, Contains-append_right, IsPermutation-refl, IsPermutation-sym, IsPermutation-trans, IsPermutation-cons, length_permutation, items_in, written, IsSameBag, IsGreatest, IsGreatest-same_bag, Act, Write, Refresh, End, PutBack, TakeOut, Seen, Old, Changed, Command, Reply, Push, Pop, Len, Extend, Append, Reserve, Shrink, Clear, DrainSorted, Loan, Pushed, Popped, Size, Done, Taken, Loaned, Acts, Ends, Pops, PopsInTurn, Step, Steps, last_state, IsState, IsSameState, front}
+use Rattle.dary_heap.proofs.Common.{◌≡◌, ◌≢◌, ℕ, zero, suc, Bool, true, false, List, [], ◌∷◌, ◌++◌, refl, sym, ap, ◌∙◌, subst, arith, Option, Some, None, AllByRecursion, IsTotalOrder, Ordering}
+use Rattle.dary_heap.proofs.Common.{Equal, Greater, Contains-append_left, Contains-append_right, IsPermutation-refl, IsPermutation-sym, IsPermutation-trans, IsPermutation-cons, length_permutation}
+use Rattle.dary_heap.proofs.Common.{items_in, written, IsSameBag, IsGreatest, IsGreatest-same_bag, Act, Write, Refresh, End, PutBack, TakeOut, Seen, Old, Changed, Command, Reply, Push, Pop, Len}
+use Rattle.dary_heap.proofs.Common.{Extend, Append, Reserve, Shrink, Clear, DrainSorted, Loan, Pushed, Popped, Size, Done, Taken, Loaned, Acts, Ends, Pops, PopsInTurn, Step, Steps, last_state}
+use Rattle.dary_heap.proofs.Common.{IsState, IsSameState, front}
 use Rattle.dary_heap.specs.TwoArities.{HasNoTies, IsSettled, IsUnrefused, SameRepliesAtTwoArities}
 use Rattle.dary_heap.proofs.Bags.{holds_none, Contains-first, IsAmong, IsAmong-cons, IsAmong-tail, IsAmong-append, IsAmong-same}
 use Rattle.dary_heap.proofs.Cancelling.{IsPermutation-uncons}
@@ -70,7 +74,8 @@ module _ {X P : Type 0} {cmp : X → X → Ordering} (calls : P → X → Bool �
     held : last ≡ last'
     rest : IsSameBag left left'
 
-  acted : (held : X) (rest : List X) (acts : List (Act X)) (seen seen' : List (Seen X)) (last last' : X) (left left' : List X) → IsAmong values (held ∷ rest) → IsAmong values (written acts) → Acts cmp held rest acts seen last left → Acts cmp held rest acts seen' last' left' → LoansAlike seen seen' last last' left left'
+  acted : (held : X) (rest : List X) (acts : List (Act X)) (seen seen' : List (Seen X)) (last last' : X) (left left' : List X) → IsAmong values (held ∷ rest) → IsAmong values (written acts) →
+      Acts cmp held rest acts seen last left → Acts cmp held rest acts seen' last' left' → LoansAlike seen seen' last last' left left'
   acted held rest [] [] [] last last' left left' among wrote h k = record { told = refl; held = h.0 ∙ sym k.0; rest = same_bag rest left left' h.1 k.1 }
   acted held rest (Write x ∷ acts) (Old y ∷ seen) (Old y' ∷ seen') last last' left left' among wrote h k =
       let now = IsAmong-cons values x rest (wrote x (Contains-first x (written acts))) (IsAmong-tail values held rest among) in
@@ -89,7 +94,8 @@ module _ {X P : Type 0} {cmp : X → X → Ordering} (calls : P → X → Bool �
       record { told = ap (λ s. Changed false ∷ s) more.told; held = more.held; rest = more.rest }
   acted held rest acts seen seen' last last' left left' among wrote h k = absurd (assumption)
 
-  ended : (last last' : X) (left left' : List X) (end : End) (given given' : Option X) (new new' : List X) → last ≡ last' → IsSameBag left left' → IsAmong values (last ∷ left) → Ends cmp last left end given new → Ends cmp last' left' end given' new' → (given ≡ given') × IsSameBag new new' × IsAmong values new
+  ended : (last last' : X) (left left' : List X) (end : End) (given given' : Option X) (new new' : List X) → last ≡ last' → IsSameBag left left' → IsAmong values (last ∷ left) →
+      Ends cmp last left end given new → Ends cmp last' left' end given' new' → (given ≡ given') × IsSameBag new new' × IsAmong values new
   ended last last' left left' PutBack None None new new' e same among h k =
       let whole = subst (λ v. IsSameBag (last ∷ left) (v ∷ left')) e (IsPermutation-cons last left left' same) in
       (refl, same_bag (last ∷ left) new new' h.0 (IsPermutation-trans _ _ _ whole k.0), IsAmong-same values (last ∷ left) new h.0 among)
@@ -97,7 +103,8 @@ module _ {X P : Type 0} {cmp : X → X → Ordering} (calls : P → X → Bool �
       (ap Some (h.0 ∙ e ∙ sym k.0), same_bag left new new' h.1 (IsPermutation-trans _ _ _ same k.1), IsAmong-same values left new h.1 (IsAmong-tail values last left among))
   ended last last' left left' end given given' new new' e same among h k = absurd (assumption)
 
-  loaned : (acts : List (Act X)) (end : End) (old : List X) (told told' : List (Seen X) × Option X) (new new' : List X) → IsAmong values old → IsAmong values (written acts) → Step cmp calls old (Loan acts end) (Loaned (Some told)) new → Step cmp calls old (Loan acts end) (Loaned (Some told')) new' → StepsAlike (Loaned (Some told)) (Loaned (Some told')) new new'
+  loaned : (acts : List (Act X)) (end : End) (old : List X) (told told' : List (Seen X) × Option X) (new new' : List X) → IsAmong values old → IsAmong values (written acts) →
+      Step cmp calls old (Loan acts end) (Loaned (Some told)) new → Step cmp calls old (Loan acts end) (Loaned (Some told')) new' → StepsAlike (Loaned (Some told)) (Loaned (Some told')) new new'
   loaned acts end old told told' new new' among wrote h k =
       let first = one_front old h.0 k.0 h.4 k.4 in
       let rest = same_rest old h.1 k.1 h.0 k.0 first h.5 k.5 in
@@ -107,7 +114,9 @@ module _ {X P : Type 0} {cmp : X → X → Ordering} (calls : P → X → Bool �
       let after = ended h.2 k.2 h.3 k.3 end told.1 told'.1 new new' during.held during.rest (Acts-among cmp values h.0 h.1 acts told.0 h.2 h.3 begun wrote h.6) h.7 k.7 in
       record { replies = ap (λ s. Loaned (Some (s, told.1))) during.told ∙ ap (λ p. Loaned (Some (told'.0, p))) after.0; bag = after.1; among = after.2 }
 
-  steps_alike : (command : Command X P) (commands : List (Command X P)) (old : List X) (reply reply' : Reply X) (new new' : List X) → IsSettled command → IsAmong values (items_in (command ∷ commands)) → IsAmong values old → IsUnrefused reply → IsUnrefused reply' → Step cmp calls old command reply new → Step cmp calls old command reply' new' → StepsAlike reply reply' new new'
+  steps_alike : (command : Command X P) (commands : List (Command X P)) (old : List X) (reply reply' : Reply X) (new new' : List X) → IsSettled command →
+      IsAmong values (items_in (command ∷ commands)) → IsAmong values old → IsUnrefused reply → IsUnrefused reply' → Step cmp calls old command reply new → Step cmp calls old command reply' new' →
+      StepsAlike reply reply' new new'
   steps_alike (Push x) commands old Pushed Pushed new new' settled brought among fine fine' h k =
       listed (x ∷ old) Pushed Pushed new new' refl (IsAmong-cons values x old (brought x (Contains-first x (items_in commands))) among) h.0 k.0
   steps_alike Pop commands old (Popped None) (Popped None) new new' settled brought among fine fine' h k = emptied _ _ new new' refl h.1 k.1
@@ -120,7 +129,8 @@ module _ {X P : Type 0} {cmp : X → X → Ordering} (calls : P → X → Bool �
   steps_alike (Reserve n) commands old Done Done new new' settled brought among fine fine' h k = listed old Done Done new new' refl among h.bag k.bag
   steps_alike (Shrink n) commands old Done Done new new' settled brought among fine fine' h k = listed old Done Done new new' refl among h.bag k.bag
   steps_alike Clear commands old Done Done new new' settled brought among fine fine' h k = emptied Done Done new new' refl h k
-  steps_alike (DrainSorted n) commands old (Taken taken) (Taken taken') new new' settled brought among fine fine' h k = emptied _ _ new new' (ap Taken (popped_in_turn old n taken taken' among h.0 k.0)) h.1 k.1
+  steps_alike (DrainSorted n) commands old (Taken taken) (Taken taken') new new' settled brought among fine fine' h k =
+      emptied _ _ new new' (ap Taken (popped_in_turn old n taken taken' among h.0 k.0)) h.1 k.1
   steps_alike (Loan acts end) commands old (Loaned None) (Loaned None) new new' settled brought among fine fine' h k = emptied _ _ new new' refl h.1 k.1
   steps_alike (Loan acts end) commands old (Loaned None) (Loaned (Some told)) new new' settled brought among fine fine' h k = absurd (let none = ap front h.0 in let some = k.4 in cc)
   steps_alike (Loan acts end) commands old (Loaned (Some told)) (Loaned None) new new' settled brought among fine fine' h k = absurd (let none = ap front k.0 in let some = h.4 in cc)
@@ -136,7 +146,9 @@ module _ {X P : Type 0} {cmp : X → X → Ordering} (calls : P → X → Bool �
   brought_later (Loan acts end) commands h = λ y in'. h y (Contains-append_right (written acts) (items_in commands) y in')
   brought_later command commands h = h
 
-  runs_alike : (commands : List (Command X P)) (old old' : List X) (replies replies' : List (Reply X)) (states states' : List (List X)) → AllByRecursion IsSettled commands → IsAmong values (items_in commands) → IsAmong values old → IsState cmp old → IsSameState old old' → AllByRecursion IsUnrefused replies → AllByRecursion IsUnrefused replies' → Steps cmp calls old commands replies states → Steps cmp calls old' commands replies' states' → (replies ≡ replies') × IsSameBag (last_state old states) (last_state old' states')
+  runs_alike : (commands : List (Command X P)) (old old' : List X) (replies replies' : List (Reply X)) (states states' : List (List X)) → AllByRecursion IsSettled commands →
+      IsAmong values (items_in commands) → IsAmong values old → IsState cmp old → IsSameState old old' → AllByRecursion IsUnrefused replies → AllByRecursion IsUnrefused replies' →
+      Steps cmp calls old commands replies states → Steps cmp calls old' commands replies' states' → (replies ≡ replies') × IsSameBag (last_state old states) (last_state old' states')
   runs_alike [] old old' [] [] [] [] settled brought among begun from fine fine' run run' = (refl, from.bag)
   runs_alike (command ∷ commands) old old' (reply ∷ replies) (reply' ∷ replies') (new ∷ states) (new' ∷ states') settled brought among begun from fine fine' run run' =
       let step = Step-same_state cmp calls old' old new' new' (IsSameState-sym old old' from) (same_state _ _ refl) command reply' run'.0 in
@@ -154,5 +166,6 @@ module _ {X P : Type 0} {cmp : X → X → Ordering} (calls : P → X → Bool �
       let among : IsAmong values start = λ y in'. Contains-append_left start (items_in commands) y in' in
       let brought : IsAmong values (items_in commands) = λ y in'. Contains-append_right start (items_in commands) y in' in
       let from = one_state calls total values untied start start' same among run.begins run'.begins in
-      let both = runs_alike calls total values untied commands start start' replies replies' run.states run'.states settled brought among run.begins from run.unrefused run'.unrefused run.run run'.run in
+      let both =
+      runs_alike calls total values untied commands start start' replies replies' run.states run'.states settled brought among run.begins from run.unrefused run'.unrefused run.run run'.run in
       (both.0, subst (λ l. IsSameBag l end') run.ends (subst (IsSameBag (last_state start run.states)) run'.ends both.1))

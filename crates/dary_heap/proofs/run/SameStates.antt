@@ -1,5 +1,8 @@
 -- Each step of the machine leads from a state to a state, of which it reads no more than the bag and the front: the order of the list behind the first item is free.
-use Rattle.dary_heap.proofs.Common.{◌≡◌, ◌≢◌, Bool, List, [], ◌∷◌, refl, sym, ap, ◌∙◌, subst, rules, inl, inr, Option, Some, None, if◌then◌else◌, IsTotalOrder, is_gt, ordering_reverse, Ordering, Greater, Contains-permutation, IsSameBag, IsGreatest, IsGreatest-same_bag, End, PutBack, TakeOut, Command, Reply, Push, PopIf, Loan, Pushed, Popped, Loaned, Ends, Step, IsState, IsSameState, front, front_with, ℕ, zero, suc, false, length, arith, nil_from_length, IsPermutation-sym, IsPermutation-trans, IsPermutation-cons, IsPermutation-append_left, length_permutation, Retain, Extend, Drain, Done, ExtendRefused, Taken, Pops, PopsInTurn, IsJoined}
+use Rattle.dary_heap.proofs.Common.{◌≡◌, ◌≢◌, Bool, List, [], ◌∷◌, refl, sym, ap, ◌∙◌, subst, rules, inl, inr, Option, Some, None, if◌then◌else◌, IsTotalOrder, is_gt, ordering_reverse, Ordering}
+use Rattle.dary_heap.proofs.Common.{Greater, Contains-permutation, IsSameBag, IsGreatest, IsGreatest-same_bag, End, PutBack, TakeOut, Command, Reply, Push, PopIf, Loan, Pushed, Popped, Loaned, Ends}
+use Rattle.dary_heap.proofs.Common.{Step, IsState, IsSameState, front, front_with, ℕ, zero, suc, false, length, arith, nil_from_length, IsPermutation-sym, IsPermutation-trans, IsPermutation-cons}
+use Rattle.dary_heap.proofs.Common.{IsPermutation-append_left, length_permutation, Retain, Extend, Drain, Done, ExtendRefused, Taken, Pops, PopsInTurn, IsJoined}
 use Rattle.dary_heap.specs.Bag.{HasGreater}
 use Rattle.dary_heap.proofs.Bags.{Contains-first, IsGreatest-overtaken, IsGreatest-stays}
 use Rattle.dary_heap.proofs.Fronts.{alone}

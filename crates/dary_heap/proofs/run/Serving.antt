@@ -1,5 +1,10 @@
 -- What one command makes of a heap, from the contract of the call that carries it out.
-use Rattle.dary_heap.proofs.Common.{◌≡◌, ℕ, ◌≤◌, ◌↔◌, Bool, List, [], ◌∷◌, ◌++◌, length, IsPermutation, Contains, refl, subst, arith, Option, Some, None, IfSome, IfNone, slice_get, sym, inl, inr, true, false, IsTotalOrder, Mut, Called, CalledAt, TakesAt, Contains-append_left, slice_get_within, get_or_from_slice_get, length_permutation, Ordering, IsCallableOn, RisesWithin, pop_bound, charge, Contents, IsHeapOrdered, Command, Reply, Pop, Ask, Popped, Asked, Step, IsServed, Serves, room, sure_after, front, suc, ◌-◌, if◌then◌else◌, min, ap, ◌∙◌, length-append, append-nil, mul-le-mul_right, Contains-append_right, IsPermutation-sym, Contains-permutation, Bor, items_where_true, IsSameBag, IsGreatest, mend_bound, IsExtended, first_no, depth, PopIf, Retain, Extend, Append, Done, IsJoined, nat_tests, ◌≢◌, le_refl, zero-le, true≢false, IsSameState}
+use Rattle.dary_heap.proofs.Common.{◌≡◌, ℕ, ◌≤◌, ◌↔◌, Bool, List, [], ◌∷◌, ◌++◌, length, IsPermutation, Contains, refl, subst, arith, Option, Some, None, IfSome, IfNone, slice_get, sym, inl, inr}
+use Rattle.dary_heap.proofs.Common.{true, false, IsTotalOrder, Mut, Called, CalledAt, TakesAt, Contains-append_left, slice_get_within, get_or_from_slice_get, length_permutation, Ordering}
+use Rattle.dary_heap.proofs.Common.{IsCallableOn, RisesWithin, pop_bound, charge, Contents, IsHeapOrdered, Command, Reply, Pop, Ask, Popped, Asked, Step, IsServed, Serves, room, sure_after, front}
+use Rattle.dary_heap.proofs.Common.{suc, ◌-◌, if◌then◌else◌, min, ap, ◌∙◌, length-append, append-nil, mul-le-mul_right, Contains-append_right, IsPermutation-sym, Contains-permutation, Bor}
+use Rattle.dary_heap.proofs.Common.{items_where_true, IsSameBag, IsGreatest, mend_bound, IsExtended, first_no, depth, PopIf, Retain, Extend, Append, Done, IsJoined, nat_tests, ◌≢◌, le_refl, zero-le}
+use Rattle.dary_heap.proofs.Common.{true≢false, IsSameState}
 use Rattle.dary_heap.proofs.Bags.{IsAmong, IsAmong-same, IsAmong-tail, front_cases, holds_none, IsAmong-append}
 use Rattle.dary_heap.proofs.Fronts.{alone, ordered_state, same_state}
 use Rattle.dary_heap.proofs.Popping.{none_first}
@@ -21,7 +26,8 @@ refused old count len wanted is least failed =
 
 module _ {X P : Type 0} {cmp : X → X → Ordering} {calls : P → X → Bool → P → Type 0} {D : ℕ} where
   -- a step that leaves the items as they were
-  pub serves_kept : {old new : Contents X} {command : Command X P} {reply : Reply X} → new.items ≡ old.items → new.comparisons ≡ old.comparisons → IsHeapOrdered cmp D new.items → Step cmp calls old.items command reply old.items → IsServed (room old) command reply → sure_after (room old) command reply ≤ room new → Serves cmp calls D old command reply new
+  pub serves_kept : {old new : Contents X} {command : Command X P} {reply : Reply X} → new.items ≡ old.items → new.comparisons ≡ old.comparisons → IsHeapOrdered cmp D new.items →
+      Step cmp calls old.items command reply old.items → IsServed (room old) command reply → sure_after (room old) command reply ≤ room new → Serves cmp calls D old command reply new
   serves_kept {old} same uncounted ordered step served sure = record {
     step = rw same step;
     charged = rw uncounted (none_counted _ _);
@@ -32,11 +38,14 @@ module _ {X P : Type 0} {cmp : X → X → Ordering} {calls : P → X → Bool �
   }
 
   -- a step that leaves all as it was
-  pub serves_same : {old new : Contents X} {command : Command X P} {reply : Reply X} → new ≡ old → IsHeapOrdered cmp D new.items → Step cmp calls old.items command reply old.items → IsServed (room old) command reply → sure_after (room old) command reply ≤ room old → Serves cmp calls D old command reply new
+  pub serves_same : {old new : Contents X} {command : Command X P} {reply : Reply X} → new ≡ old → IsHeapOrdered cmp D new.items → Step cmp calls old.items command reply old.items →
+      IsServed (room old) command reply → sure_after (room old) command reply ≤ room old → Serves cmp calls D old command reply new
   serves_same same ordered step served sure = serves_kept (ap (λ (it : Contents X). it.items) same) (ap (λ (it : Contents X). it.comparisons) same) ordered step served (rw same sure)
 
   -- a step that takes all items away
-  pub serves_emptied : {old new : Contents X} {command : Command X P} {reply : Reply X} → new.items ≡ [] → Step cmp calls old.items command reply [] → RisesWithin old.comparisons new.comparisons (charge D (length old.items) command reply 0) → IsServed (room old) command reply → sure_after (room old) command reply ≤ 0 → Serves cmp calls D old command reply new
+  pub serves_emptied : {old new : Contents X} {command : Command X P} {reply : Reply X} → new.items ≡ [] → Step cmp calls old.items command reply [] →
+      RisesWithin old.comparisons new.comparisons (charge D (length old.items) command reply 0) → IsServed (room old) command reply → sure_after (room old) command reply ≤ 0 →
+      Serves cmp calls D old command reply new
   serves_emptied none step counted served sure = record {
     step = rw none step;
     charged = rw none counted;
@@ -46,7 +55,8 @@ module _ {X P : Type 0} {cmp : X → X → Ordering} {calls : P → X → Bool �
     among = λ x in'. absurd (holds_none x (rw none at in'));
   }
 
-  pub pops : IsTotalOrder cmp → (old new : Contents X) (r : Option X) → r ≡ slice_get old.items 0 → IfSome r (λ m. IsPermutation old.items (m ∷ new.items)) → IsHeapOrdered cmp D new.items → RisesWithin old.comparisons new.comparisons (pop_bound D (length old.items)) → new.capacity ≡ old.capacity → IfNone r (new ≡ old) → Serves cmp calls D old Pop (Popped r) new
+  pub pops : IsTotalOrder cmp → (old new : Contents X) (r : Option X) → r ≡ slice_get old.items 0 → IfSome r (λ m. IsPermutation old.items (m ∷ new.items)) → IsHeapOrdered cmp D new.items →
+      RisesWithin old.comparisons new.comparisons (pop_bound D (length old.items)) → new.capacity ≡ old.capacity → IfNone r (new ≡ old) → Serves cmp calls D old Pop (Popped r) new
   pops total old new None first bag ordered charged same unchanged = let none = none_first old.items first in serves_same unchanged ordered (none, none) tt (le_refl _)
   pops total old new (Some m) first bag ordered charged same none = record {
     step = (sym first, bag, ordered_state total D new.items ordered);
@@ -80,7 +90,15 @@ module _ {X P : Type 0} {cmp : X → X → Ordering} {calls : P → X → Bool �
       let kept = items_where_true h.answers old.items in
       let n = length new.items in
       record {
-        step = (old.items, kept, same_state _ _ refl, (h.answers, h.after, h.all, h.asked, refl), h.bag, ordered_state total D new.items ordered, λ all_kept. ap (λ (it : Contents X). front it.items) (h.unchanged (none_removed h.answers old.items h.all all_kept)));
+        step = (
+          old.items,
+          kept,
+          same_state _ _ refl,
+          (h.answers, h.after, h.all, h.asked, refl),
+          h.bag,
+          ordered_state total D new.items ordered,
+          λ all_kept. ap (λ (it : Contents X). front it.items) (h.unchanged (none_removed h.answers old.items h.all all_kept)),
+        );
         charged = record { rises = h.counted.rises; within = omega (arith, h.counted.within, mend_bound-fewer D n (n - first_no h.answers) n (omega arith)) };
         served = tt;
         sure = zero-le;
@@ -92,7 +110,8 @@ module _ {X P : Type 0} {cmp : X → X → Ordering} {calls : P → X → Bool �
       }
 
   -- xs came in, which is the list or a beginning of it
-  pub came_in : (old new : Contents X) (all xs left : List X) (reply : Reply X) → all ≡ xs ++ left → IsExtended cmp D old xs new → (IsJoined cmp old.items xs new.items → Step cmp calls old.items (Extend all) reply new.items) → Serves cmp calls D old (Extend all) reply new
+  pub came_in : (old new : Contents X) (all xs left : List X) (reply : Reply X) → all ≡ xs ++ left → IsExtended cmp D old xs new →
+      (IsJoined cmp old.items xs new.items → Step cmp calls old.items (Extend all) reply new.items) → Serves cmp calls D old (Extend all) reply new
   came_in old new all xs left reply split h step = record {
     step = step (record { bag = h.bag; state = ordered_state total D new.items h.ordered; first = λ none. ap front (h.unchanged none) });
     charged = h.counted;
@@ -102,7 +121,8 @@ module _ {X P : Type 0} {cmp : X → X → Ordering} {calls : P → X → Bool �
     among = came_behind old.items xs all left new.items split h.bag;
   }
 
-  pub appended : (old new : Contents X) (other : List X) → IsSameBag (old.items ++ other) new.items → (other ≡ [] → new.items ≡ old.items) → IsHeapOrdered cmp D new.items → RisesWithin old.comparisons new.comparisons (mend_bound D (length new.items) (min (length old.items) (length other))) → Serves cmp calls D old (Append other) Done new
+  pub appended : (old new : Contents X) (other : List X) → IsSameBag (old.items ++ other) new.items → (other ≡ [] → new.items ≡ old.items) → IsHeapOrdered cmp D new.items →
+      RisesWithin old.comparisons new.comparisons (mend_bound D (length new.items) (min (length old.items) (length other))) → Serves cmp calls D old (Append other) Done new
   appended old new other bag same_items ordered counted =
       let more : length other ≡ length new.items - length old.items = omega (arith, length_permutation _ _ bag, length-append old.items other) in
       record {
@@ -130,7 +150,9 @@ module _ {X P : Type 0} (calls : Mut P (Bor X × Unit {0}) Bool) where
     pub told : (p : P) (item : X) (answer : Bool) → Told p item answer → (after : P) × CalledAt calls p item answer after
     told p item answer h = let called = (once p (h.0, tt) answer).0 h.1 in (called.0, record { shown = h.0; shows = h.2; called = called.1 })
 
-    pub asks : {cmp : X → X → Ordering} {D : ℕ} (heap : Contents X) (p : P) (answer : Option Bool) → (heap.items ≡ [] → answer ≡ None) → ((item : X) → slice_get heap.items 0 ≡ Some item → (given : Bool) × Told p item given × (answer ≡ Some given)) → IsHeapOrdered cmp D heap.items → Serves cmp (CalledAt calls) D heap (Ask p) (Asked answer) heap
+    pub asks : {cmp : X → X → Ordering} {D : ℕ} (heap : Contents X) (p : P) (answer : Option Bool) → (heap.items ≡ [] → answer ≡ None) →
+        ((item : X) → slice_get heap.items 0 ≡ Some item → (given : Bool) × Told p item given × (answer ≡ Some given)) → IsHeapOrdered cmp D heap.items →
+        Serves cmp (CalledAt calls) D heap (Ask p) (Asked answer) heap
     asks heap p answer none asked ordered = elim (front_cases heap.items) [
       | inl gone ↦ rw (none gone) (serves_same refl ordered (gone, gone) tt (le_refl _))
       | inr first ↦
@@ -139,8 +161,12 @@ module _ {X P : Type 0} (calls : Mut P (Bor X × Unit {0}) Bool) where
     ]
 
     -- a pop that p decides
-    answered : {cmp : X → X → Ordering} {D : ℕ} → IsTotalOrder cmp → (old new : Contents X) (p : P) (r : Option X) (f : X) (answer : Bool) → front old.items ≡ Some f → Told p f answer → r ≡ (if answer then Some f else None) → IfSome r (λ m. IsPermutation old.items (m ∷ new.items)) → IsHeapOrdered cmp D new.items → RisesWithin old.comparisons new.comparisons (pop_bound D (length old.items)) → new.capacity ≡ old.capacity → IfNone r (new ≡ old) → Serves cmp (CalledAt calls) D old (PopIf p) (Popped r) new
-    answered total old new p r f false first asked is bag ordered charged same unchanged = rw is (serves_same (rw is at unchanged) ordered (inr ((f, first, told p f false asked), same_state _ _ refl)) tt (le_refl _))
+    answered : {cmp : X → X → Ordering} {D : ℕ} → IsTotalOrder cmp → (old new : Contents X) (p : P) (r : Option X) (f : X) (answer : Bool) → front old.items ≡ Some f → Told p f answer →
+        r ≡ (if answer then Some f else None) → IfSome r (λ m. IsPermutation old.items (m ∷ new.items)) → IsHeapOrdered cmp D new.items →
+        RisesWithin old.comparisons new.comparisons (pop_bound D (length old.items)) → new.capacity ≡ old.capacity → IfNone r (new ≡ old) →
+        Serves cmp (CalledAt calls) D old (PopIf p) (Popped r) new
+    answered total old new p r f false first asked is bag ordered charged same unchanged =
+        rw is (serves_same (rw is at unchanged) ordered (inr ((f, first, told p f false asked), same_state _ _ refl)) tt (le_refl _))
     answered total old new p r f true first asked is bag ordered charged same unchanged =
         let whole : IsPermutation old.items (f ∷ new.items) = rw is at bag in
         rw is record {
@@ -152,7 +178,10 @@ module _ {X P : Type 0} (calls : Mut P (Bor X × Unit {0}) Bool) where
           among = rest_among old.items new.items f whole;
         }
 
-    pub pops_where : {cmp : X → X → Ordering} {D : ℕ} → IsTotalOrder cmp → (old new : Contents X) (p : P) (r : Option X) → ((item : X) → slice_get old.items 0 ≡ Some item → (answer : Bool) × Told p item answer × (r ≡ (if answer then Some item else None))) → IfSome r (IsGreatest cmp old.items) → IfSome r (λ m. IsPermutation old.items (m ∷ new.items)) → IsHeapOrdered cmp D new.items → RisesWithin old.comparisons new.comparisons (pop_bound D (length old.items)) → new.capacity ≡ old.capacity → IfNone r (new ≡ old) → Serves cmp (CalledAt calls) D old (PopIf p) (Popped r) new
+    pub pops_where : {cmp : X → X → Ordering} {D : ℕ} → IsTotalOrder cmp → (old new : Contents X) (p : P) (r : Option X) →
+        ((item : X) → slice_get old.items 0 ≡ Some item → (answer : Bool) × Told p item answer × (r ≡ (if answer then Some item else None))) → IfSome r (IsGreatest cmp old.items) →
+        IfSome r (λ m. IsPermutation old.items (m ∷ new.items)) → IsHeapOrdered cmp D new.items → RisesWithin old.comparisons new.comparisons (pop_bound D (length old.items)) →
+        new.capacity ≡ old.capacity → IfNone r (new ≡ old) → Serves cmp (CalledAt calls) D old (PopIf p) (Popped r) new
     pops_where total old new p None asked greatest bag ordered charged same unchanged = elim (front_cases old.items) [
       | inl none ↦ serves_same unchanged ordered (inl (none, none)) tt (le_refl _)
       | inr first ↦ let a = asked first.0 first.1 in answered total old new p None first.0 a.0 first.1 a.1 a.2 bag ordered charged same unchanged

@@ -1,5 +1,8 @@
 -- What a loan makes of a heap, from the contracts of its calls.
-use Rattle.dary_heap.proofs.Common.{◌≡◌, ◌↔◌, ℕ, ◌+◌, ◌-◌, ◌*◌, ◌<◌, ◌≤◌, Bool, true, false, List, [], ◌∷◌, ◌++◌, length, refl, sym, ap, ◌∙◌, subst, arith, Option, Some, None, IsTrue, slice_set, Contains, Contains-append_left, Contains-append_right, IsPermutation-refl, IsPermutation-sym, IsPermutation-trans, IsPermutation-cons, length_permutation, OnFalse, IsTotalOrder, Ordering, written, IsSameBag, IsGreatest-same_bag, RisesWithin, refreshes, pop_bound, sink_bound, Contents, IsHeapOrdered, IsExceeded, Act, Write, Refresh, End, PutBack, TakeOut, Seen, Old, Changed, Loan, Loaned, Acts, Ends, Serves, IsState, front, length-set, zero-le}
+use Rattle.dary_heap.proofs.Common.{◌≡◌, ◌↔◌, ℕ, ◌+◌, ◌-◌, ◌*◌, ◌<◌, ◌≤◌, Bool, true, false, List, [], ◌∷◌, ◌++◌, length, refl, sym, ap, ◌∙◌, subst, arith, Option, Some, None, IsTrue, slice_set}
+use Rattle.dary_heap.proofs.Common.{Contains, Contains-append_left, Contains-append_right, IsPermutation-refl, IsPermutation-sym, IsPermutation-trans, IsPermutation-cons, length_permutation}
+use Rattle.dary_heap.proofs.Common.{OnFalse, IsTotalOrder, Ordering, written, IsSameBag, IsGreatest-same_bag, RisesWithin, refreshes, pop_bound, sink_bound, Contents, IsHeapOrdered, IsExceeded, Act}
+use Rattle.dary_heap.proofs.Common.{Write, Refresh, End, PutBack, TakeOut, Seen, Old, Changed, Loan, Loaned, Acts, Ends, Serves, IsState, front, length-set, zero-le}
 use Rattle.dary_heap.proofs.Bags.{Contains-first, IsAmong, IsAmong-cons, IsAmong-tail, IsAmong-same}
 use Rattle.dary_heap.proofs.Cancelling.{IsPermutation-uncons}
 use Rattle.dary_heap.proofs.Depth.{times_depth-later}
@@ -8,31 +11,38 @@ use Rattle.dary_heap.proofs.run.SameStates.{HasGreater-same_bag}
 
 module _ {X : Type 0} (cmp : X → X → Ordering) where
   -- of the rest the acts read its bag alone
-  Acts-same : (held : X) (rest left : List X) (acts : List (Act X)) (seen : List (Seen X)) (last : X) (end : List X) → IsSameBag rest left → Acts cmp held left acts seen last end → Acts cmp held rest acts seen last end
+  Acts-same : (held : X) (rest left : List X) (acts : List (Act X)) (seen : List (Seen X)) (last : X) (end : List X) → IsSameBag rest left → Acts cmp held left acts seen last end →
+      Acts cmp held rest acts seen last end
   Acts-same held rest left [] [] last end same h = (h.0, IsPermutation-trans _ _ _ same h.1)
   Acts-same held rest left (Write x ∷ acts) (Old y ∷ seen) last end same h = (h.0, Acts-same x rest left acts seen last end same h.1)
   Acts-same held rest left (Refresh ∷ acts) (Changed true ∷ seen) last end same h =
       let back = IsPermutation-sym _ _ same in
       let greatest = IsGreatest-same_bag (held ∷ left) (held ∷ rest) h.1.0 (IsPermutation-cons held left rest back) h.1.2 in
       (HasGreater-same_bag cmp left rest held back h.0, (h.1.0, h.1.1, greatest, IsPermutation-trans _ _ _ (IsPermutation-cons held rest left same) h.1.3, h.1.4))
-  Acts-same held rest left (Refresh ∷ acts) (Changed false ∷ seen) last end same h = (λ over. h.0 (HasGreater-same_bag cmp rest left held same over), Acts-same held rest left acts seen last end same h.1)
+  Acts-same held rest left (Refresh ∷ acts) (Changed false ∷ seen) last end same h =
+      (λ over. h.0 (HasGreater-same_bag cmp rest left held same over), Acts-same held rest left acts seen last end same h.1)
   Acts-same held rest left acts seen last end same h = absurd h
 
   -- and of what is held its value
-  pub Acts-from : (held held' : X) (rest rest' : List X) (acts : List (Act X)) (seen : List (Seen X)) (last : X) (left : List X) → held ≡ held' → IsSameBag rest rest' → Acts cmp held' rest' acts seen last left → Acts cmp held rest acts seen last left
+  pub Acts-from : (held held' : X) (rest rest' : List X) (acts : List (Act X)) (seen : List (Seen X)) (last : X) (left : List X) → held ≡ held' → IsSameBag rest rest' →
+      Acts cmp held' rest' acts seen last left → Acts cmp held rest acts seen last left
   Acts-from held held' rest rest' acts seen last left e same h = Acts-same held rest rest' acts seen last left same (subst (λ v. Acts cmp v rest' acts seen last left) (sym e) h)
 
   -- one act more
-  Acts-more : (held : X) (rest : List X) (acts : List (Act X)) (seen : List (Seen X)) (mid : X) (left : List X) (act : Act X) (sight : Seen X) (last : X) (end : List X) → Acts cmp held rest acts seen mid left → Acts cmp mid left (act ∷ []) (sight ∷ []) last end → Acts cmp held rest (acts ++ act ∷ []) (seen ++ sight ∷ []) last end
+  Acts-more : (held : X) (rest : List X) (acts : List (Act X)) (seen : List (Seen X)) (mid : X) (left : List X) (act : Act X) (sight : Seen X) (last : X) (end : List X) →
+      Acts cmp held rest acts seen mid left → Acts cmp mid left (act ∷ []) (sight ∷ []) last end → Acts cmp held rest (acts ++ act ∷ []) (seen ++ sight ∷ []) last end
   Acts-more held rest [] [] mid left act sight last end h more = Acts-from held mid rest left (act ∷ []) (sight ∷ []) last end (sym h.0) h.1 more
   Acts-more held rest (Write x ∷ acts) (Old y ∷ seen) mid left act sight last end h more = (h.0, Acts-more x rest acts seen mid left act sight last end h.1 more)
-  Acts-more held rest (Refresh ∷ acts) (Changed true ∷ seen) mid left act sight last end h more = (h.0, (h.1.0, h.1.1, h.1.2, h.1.3, Acts-more h.1.0 h.1.1 acts seen mid left act sight last end h.1.4 more))
+  Acts-more held rest (Refresh ∷ acts) (Changed true ∷ seen) mid left act sight last end h more =
+      (h.0, (h.1.0, h.1.1, h.1.2, h.1.3, Acts-more h.1.0 h.1.1 acts seen mid left act sight last end h.1.4 more))
   Acts-more held rest (Refresh ∷ acts) (Changed false ∷ seen) mid left act sight last end h more = (h.0, Acts-more held rest acts seen mid left act sight last end h.1 more)
   Acts-more held rest acts seen mid left act sight last end h more = absurd h
 
   -- what is held and what is left were there or were written
-  pub Acts-among : (values : List X) (held : X) (rest : List X) (acts : List (Act X)) (seen : List (Seen X)) (last : X) (left : List X) → IsAmong values (held ∷ rest) → IsAmong values (written acts) → Acts cmp held rest acts seen last left → IsAmong values (last ∷ left)
-  Acts-among values held rest [] [] last left among wrote h = subst (λ v. IsAmong values (v ∷ left)) (sym h.0) (IsAmong-same values (held ∷ rest) (held ∷ left) (IsPermutation-cons held rest left h.1) among)
+  pub Acts-among : (values : List X) (held : X) (rest : List X) (acts : List (Act X)) (seen : List (Seen X)) (last : X) (left : List X) → IsAmong values (held ∷ rest) →
+      IsAmong values (written acts) → Acts cmp held rest acts seen last left → IsAmong values (last ∷ left)
+  Acts-among values held rest [] [] last left among wrote h =
+      subst (λ v. IsAmong values (v ∷ left)) (sym h.0) (IsAmong-same values (held ∷ rest) (held ∷ left) (IsPermutation-cons held rest left h.1) among)
   Acts-among values held rest (Write x ∷ acts) (Old y ∷ seen) last left among wrote h =
       let now = IsAmong-cons values x rest (wrote x (Contains-first x (written acts))) (IsAmong-tail values held rest among) in
       Acts-among values x rest acts seen last left now (IsAmong-tail values x (written acts) wrote) h.1
@@ -67,11 +77,23 @@ module _ {X : Type 0} {cmp : X → X → Ordering} {D : ℕ} where
   pub IsHeld-begins : (heap : Contents X) → 0 < length heap.items → IsHeld cmp D heap heap [] []
   IsHeld-begins heap some =
       let w = parted heap.items some in
-      record { first = w.0; rest = w.1; last = w.0; left = w.1; from = w.2; acted = (refl, IsPermutation-refl w.1); to = w.2; len = refl; counted = record { rises = omega arith; within = omega arith } }
+      record {
+        first = w.0;
+        rest = w.1;
+        last = w.0;
+        left = w.1;
+        from = w.2;
+        acted = (refl, IsPermutation-refl w.1);
+        to = w.2;
+        len = refl;
+        counted =
+            record { rises = omega arith; within = omega arith };
+      }
 
   module _ {begun now : Contents X} {acts : List (Act X)} {seen : List (Seen X)} (h : IsHeld cmp D begun now acts seen) (new : Contents X) where
     -- one act more
-    act_more : (act : Act X) (sight : Seen X) (last : X) (left : List X) → Acts cmp h.last h.left (act ∷ []) (sight ∷ []) last left → new.items ≡ last ∷ left → length new.items ≡ length now.items → RisesWithin now.comparisons new.comparisons (refreshes (act ∷ []) * sink_bound D (length now.items)) → IsHeld cmp D begun new (acts ++ act ∷ []) (seen ++ sight ∷ [])
+    act_more : (act : Act X) (sight : Seen X) (last : X) (left : List X) → Acts cmp h.last h.left (act ∷ []) (sight ∷ []) last left → new.items ≡ last ∷ left → length new.items ≡ length now.items →
+        RisesWithin now.comparisons new.comparisons (refreshes (act ∷ []) * sink_bound D (length now.items)) → IsHeld cmp D begun new (acts ++ act ∷ []) (seen ++ sight ∷ [])
     act_more act sight last left more is len counted = record {
       first = h.first;
       rest = h.rest;
@@ -84,20 +106,25 @@ module _ {X : Type 0} {cmp : X → X → Ordering} {D : ℕ} where
       counted = rw refreshes-append (record { rises = omega (arith, h.counted.rises, counted.rises); within = omega (arith, h.counted.within, rw h.len at counted.within) });
     }
 
-    pub IsHeld-write : (x y : X) → front now.items ≡ Some y → new.items ≡ slice_set now.items 0 x → new.comparisons ≡ now.comparisons → IsHeld cmp D begun new (acts ++ Write x ∷ []) (seen ++ Old y ∷ [])
+    pub IsHeld-write : (x y : X) → front now.items ≡ Some y → new.items ≡ slice_set now.items 0 x → new.comparisons ≡ now.comparisons →
+        IsHeld cmp D begun new (acts ++ Write x ∷ []) (seen ++ Old y ∷ [])
     IsHeld-write x y is written same =
         let first : Some h.last ≡ Some y = sym (ap front h.to) ∙ is in
-        act_more (Write x) (Old y) x h.left ((cc), (refl, IsPermutation-refl h.left)) (written ∙ ap (λ xs. slice_set xs 0 x) h.to) (ap length written ∙ length-set now.items 0 x) (record { rises = omega (arith, same); within = omega (arith, same) })
+        act_more (Write x) (Old y) x h.left ((cc), (refl, IsPermutation-refl h.left)) (written ∙ ap (λ xs. slice_set xs 0 x) h.to) (ap length written ∙ length-set now.items 0 x)
+        (record { rises = omega (arith, same); within = omega (arith, same) })
 
-    pub IsHeld-refresh : (moved : Bool) → (IsTrue moved ↔ IsExceeded cmp now.items) → IsSameBag now.items new.items → IsState cmp new.items → OnFalse moved (new.items ≡ now.items) → RisesWithin now.comparisons new.comparisons (sink_bound D (length now.items)) → IsHeld cmp D begun new (acts ++ Refresh ∷ []) (seen ++ Changed moved ∷ [])
+    pub IsHeld-refresh : (moved : Bool) → (IsTrue moved ↔ IsExceeded cmp now.items) → IsSameBag now.items new.items → IsState cmp new.items → OnFalse moved (new.items ≡ now.items) →
+        RisesWithin now.comparisons new.comparisons (sink_bound D (length now.items)) → IsHeld cmp D begun new (acts ++ Refresh ∷ []) (seen ++ Changed moved ∷ [])
     IsHeld-refresh true says bag state still counted =
         let len = length_permutation now.items new.items bag in
         let w = parted new.items (omega (arith, len, ap length h.to)) in
         let greatest = IsGreatest-same_bag new.items (h.last ∷ h.left) w.0 (rw h.to at (IsPermutation-sym now.items new.items bag)) (state.greatest w.0 (ap front w.2)) in
-        act_more Refresh (Changed true) w.0 w.1 (rw h.to at (says.0 refl), (w.0, w.1, greatest, rw (h.to, w.2) at bag, (refl, IsPermutation-refl w.1))) w.2 len (record { rises = counted.rises; within = omega (arith, counted.within) })
+        act_more Refresh (Changed true) w.0 w.1 (rw h.to at (says.0 refl), (w.0, w.1, greatest, rw (h.to, w.2) at bag, (refl, IsPermutation-refl w.1))) w.2 len
+        (record { rises = counted.rises; within = omega (arith, counted.within) })
     IsHeld-refresh false says bag state still counted =
         let none : IsExceeded cmp (h.last ∷ h.left) → ⊥ = λ over. (let said : false ≡ true = says.1 (rw h.to over) in cc) in
-        act_more Refresh (Changed false) h.last h.left (none, (refl, IsPermutation-refl h.left)) (still ∙ h.to) (ap length still) (record { rises = counted.rises; within = omega (arith, counted.within) })
+        act_more Refresh (Changed false) h.last h.left (none, (refl, IsPermutation-refl h.left)) (still ∙ h.to) (ap length still)
+        (record { rises = counted.rises; within = omega (arith, counted.within) })
 
   -- what the heap and the acts held
   brought : {begun now : Contents X} {acts : List (Act X)} {seen : List (Seen X)} → IsHeld cmp D begun now acts seen → IsAmong (begun.items ++ (written acts ++ [])) now.items
@@ -108,8 +135,10 @@ module _ {X : Type 0} {cmp : X → X → Ordering} {D : ℕ} where
 
 module _ {X P : Type 0} {cmp : X → X → Ordering} {calls : P → X → Bool → P → Type 0} {D : ℕ} where
   -- from the heap at the start through the loan at its end to what that leaves behind its reference, which is what the heap is then
-  module _ {old mid : Contents X} {acts : List (Act X)} {seen : List (Seen X)} (h : IsHeld cmp D old mid acts seen) (end new : Contents X) (back : new ≡ end) (ordered : IsHeapOrdered cmp D end.items) where
-    ended : (kind : End) (given : Option X) (last_cost : ℕ) → RisesWithin mid.comparisons end.comparisons last_cost → last_cost ≤ sink_bound D (length mid.items) → IsAmong mid.items end.items → Ends cmp h.last h.left kind given end.items → Serves cmp calls D old (Loan acts kind) (Loaned (Some (seen, given))) new
+  module _ {old mid : Contents X} {acts : List (Act X)} {seen : List (Seen X)} (h : IsHeld cmp D old mid acts seen) (end new : Contents X) (back : new ≡ end)
+      (ordered : IsHeapOrdered cmp D end.items) where
+    ended : (kind : End) (given : Option X) (last_cost : ℕ) → RisesWithin mid.comparisons end.comparisons last_cost → last_cost ≤ sink_bound D (length mid.items) → IsAmong mid.items end.items →
+        Ends cmp h.last h.left kind given end.items → Serves cmp calls D old (Loan acts kind) (Loaned (Some (seen, given))) new
     ended kind given last_cost counted few among ends = rw back record {
       step = (h.first, h.rest, h.last, h.left, ap front h.from, rw (← h.from) (IsPermutation-refl old.items), h.acted, ends);
       charged = record { rises = omega (arith, h.counted.rises, counted.rises); within = omega (arith, h.counted.within, counted.within, few, ap (sink_bound D) h.len) };
@@ -119,14 +148,16 @@ module _ {X P : Type 0} {cmp : X → X → Ordering} {calls : P → X → Bool �
       among = λ x in'. brought h x (among x in');
     }
 
-    pub put_back : IsTotalOrder cmp → RisesWithin mid.comparisons end.comparisons (sink_bound D (length mid.items)) → IsSameBag mid.items end.items → ((IsExceeded cmp mid.items → ⊥) → front end.items ≡ front mid.items) → Serves cmp calls D old (Loan acts PutBack) (Loaned (Some (seen, None))) new
+    pub put_back : IsTotalOrder cmp → RisesWithin mid.comparisons end.comparisons (sink_bound D (length mid.items)) → IsSameBag mid.items end.items →
+        ((IsExceeded cmp mid.items → ⊥) → front end.items ≡ front mid.items) → Serves cmp calls D old (Loan acts PutBack) (Loaned (Some (seen, None))) new
     put_back total counted bag first = ended PutBack None _ counted (omega arith) (IsAmong-same mid.items mid.items end.items bag (λ x in'. in')) (
       rw h.to at bag,
       ordered_state total D end.items ordered,
       λ none. first (λ over. none (rw h.to at over)) ∙ ap front h.to,
     )
 
-    pub taken_out : IsTotalOrder cmp → (item : X) → RisesWithin mid.comparisons end.comparisons (pop_bound D (length mid.items)) → front mid.items ≡ Some item → IsSameBag mid.items (item ∷ end.items) → Serves cmp calls D old (Loan acts TakeOut) (Loaned (Some (seen, Some item))) new
+    pub taken_out : IsTotalOrder cmp → (item : X) → RisesWithin mid.comparisons end.comparisons (pop_bound D (length mid.items)) → front mid.items ≡ Some item →
+        IsSameBag mid.items (item ∷ end.items) → Serves cmp calls D old (Loan acts TakeOut) (Loaned (Some (seen, Some item))) new
     taken_out total item counted first bag =
         let held : Some h.last ≡ Some item = sym (ap front h.to) ∙ first in
         let is : item ≡ h.last = (cc) in

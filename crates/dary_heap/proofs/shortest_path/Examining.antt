@@ -1,7 +1,12 @@
 -- What a search examined and pushed so far. No node's edges are examined twice, since states come out in the order of their cost and no state is pushed twice.
-use Rattle.dary_heap.proofs.Common.{◌≡◌, ℕ, zero, suc, ◌+◌, ◌-◌, ◌*◌, ◌<◌, ◌≤◌, false, nat_eq, inl, inr, List, [], ◌∷◌, ◌++◌, length, map, take, drop, Contains, arith, get_or, get_or-set_same, get_or-set_other, refl, sym, ap, ◌∙◌, subst, append_assoc, append-nil, length-append, length_permutation, Some, slice_get, Vec, mul-le-mul_left, mul-le-mul_right, true≢false, cases_lt, get_or_past, length-take-le, take-append-drop, All-contains_itself, All-weaker, recursion_from_All, IsPermutation-sym, IsPermutation-to_front, sum_by-set, IsDistinct-IsPermutation, IsDistinct-cons, IsDistinct-head, IsDistinct-tail, nat_eq_equiv, unsigned_Decides, Global, AllByRecursion, IsDistinct, sum_by, IsSameBag, IsGreatest, RisesWithin, push_bound, pop_bound, Contents, Pushes, AreExaminedOnce, edges_of, all_edges_of, state_cmp, state, Relaxes, Graph, Edge, State, set, ne_eqb, Contains-push_cases, sum_by-cons, sum-map, AreExamined, AreApart}
+use Rattle.dary_heap.proofs.Common.{◌≡◌, ℕ, zero, suc, ◌+◌, ◌-◌, ◌*◌, ◌<◌, ◌≤◌, false, nat_eq, inl, inr, List, [], ◌∷◌, ◌++◌, length, map, take, drop, Contains, arith, get_or, get_or-set_same}
+use Rattle.dary_heap.proofs.Common.{get_or-set_other, refl, sym, ap, ◌∙◌, subst, append_assoc, append-nil, length-append, length_permutation, Some, slice_get, Vec, mul-le-mul_left, mul-le-mul_right}
+use Rattle.dary_heap.proofs.Common.{true≢false, cases_lt, get_or_past, length-take-le, take-append-drop, All-contains_itself, All-weaker, recursion_from_All, IsPermutation-sym}
+use Rattle.dary_heap.proofs.Common.{IsPermutation-to_front, sum_by-set, IsDistinct-IsPermutation, IsDistinct-cons, IsDistinct-head, IsDistinct-tail, nat_eq_equiv, unsigned_Decides, Global}
+use Rattle.dary_heap.proofs.Common.{AllByRecursion, IsDistinct, sum_by, IsSameBag, RisesWithin, push_bound, pop_bound, Contents, Pushes, AreExaminedOnce, edges_of, all_edges_of, state, Relaxes}
+use Rattle.dary_heap.proofs.Common.{Graph, Edge, State, set, ne_eqb, Contains-push_cases, sum_by-cons, sum-map, AreExamined, AreApart}
 use Rattle.dary_heap.proofs.{came_alone, came_first, came_later, holds_none, depth-later, times_depth-later}
-use Rattle.dary_heap.proofs.shortest_path.Apart.{apart_more, apart_less, not_twice, no_cheaper}
+use Rattle.dary_heap.proofs.shortest_path.Apart.{apart_more, apart_less, not_twice}
 
 -- the edges of some nodes were examined, each node's once: no state that waits can have them examined again
 pub record AreOnce (limit : ℕ) (g : Graph) (found : List ℕ) (waiting : List State) (examined : List Edge) : Type 0 where
@@ -16,8 +21,10 @@ pub record AreOnce (limit : ℕ) (g : Graph) (found : List ℕ) (waiting : List 
 
 distinct_more : (nodes : List ℕ) (u : ℕ) → IsDistinct nat_eq nodes → (Contains nodes u → ⊥) → IsDistinct nat_eq (nodes ++ u ∷ [])
 distinct_more nodes u distinct new =
-    let others = recursion_from_All (λ v. nat_eq u v ≡ false) nodes (All-weaker (Contains nodes) (λ v. nat_eq u v ≡ false) (λ v in'. ne_eqb u v (λ same. new (subst (Contains nodes) (sym same) in'))) nodes (All-contains_itself nodes)) in
-    IsDistinct-IsPermutation nat_eq nat_eq_equiv.symm (u ∷ nodes) (nodes ++ u ∷ []) (IsPermutation-sym (nodes ++ u ∷ []) (u ∷ nodes) (IsPermutation-to_front nodes u)) (IsDistinct-cons nat_eq u nodes others distinct)
+    let others = recursion_from_All (λ v. nat_eq u v ≡ false) nodes
+    (All-weaker (Contains nodes) (λ v. nat_eq u v ≡ false) (λ v in'. ne_eqb u v (λ same. new (subst (Contains nodes) (sym same) in'))) nodes (All-contains_itself nodes)) in
+    IsDistinct-IsPermutation nat_eq nat_eq_equiv.symm (u ∷ nodes) (nodes ++ u ∷ []) (IsPermutation-sym (nodes ++ u ∷ []) (u ∷ nodes) (IsPermutation-to_front nodes u))
+    (IsDistinct-cons nat_eq u nodes others distinct)
 
 all_edges_more : (g : Graph) (nodes : List ℕ) (u : ℕ) → all_edges_of g (nodes ++ u ∷ []) ≡ all_edges_of g nodes ++ edges_of g u
 all_edges_more g [] u = append-nil (edges_of g u)
@@ -35,14 +42,16 @@ none_examined g examined none = record { nodes = []; distinct = tt; left = []; i
 
 module _ {limit : ℕ} {g : Graph} where
   -- nothing is examined, and the start alone waits
-  pub once_begins : (found : List ℕ) {waiting : List State} {examined : List Edge} (start : ℕ) → start < length found → IsSameBag (state 0 start ∷ []) waiting → examined ≡ [] → AreOnce limit g (set found start 0) waiting examined
+  pub once_begins : (found : List ℕ) {waiting : List State} {examined : List Edge} (start : ℕ) → start < length found → IsSameBag (state 0 start ∷ []) waiting → examined ≡ [] →
+      AreOnce limit g (set found start 0) waiting examined
   unfolding IsDistinct none_examined
   once_begins found {waiting} {examined} start within bag none = record {
     once = none_examined g examined none;
     all = refl;
     apart = record {
       distinct = apart_more (state 0 start) [] waiting (λ t in'. absurd (holds_none t in')) tt bag;
-      above = λ s in'. subst (λ (s : State). get_or (set found start 0) s.position limit ≤ s.cost) (came_alone (state 0 start) waiting s bag in') (omega (arith, get_or-set_same found start 0 limit within));
+      above = λ s in'. subst (λ (s : State). get_or (set found start 0) s.position limit ≤ s.cost) (came_alone (state 0 start) waiting s bag in')
+          (omega (arith, get_or-set_same found start 0 limit within));
     };
     last = 0;
     later = λ s in'. omega arith;
@@ -73,77 +82,89 @@ module _ {limit : ℕ} {g : Graph} where
     }
 
     -- a state is taken that isn't dearer than what was found, so its node wasn't examined yet
-    module _ (found_here : get_or found s.position limit ≡ s.cost) (row : Vec Edge Global) (row_is : slice_get g s.position ≡ Some row) where
+    module _ (found_here : get_or found s.position limit ≡ s.cost) where
       there : Contains waiting s
       there = came_first s rest waiting held
 
-      distinct_node : IsDistinct nat_eq (h.once.nodes ++ s.position ∷ [])
+      pub distinct_node : IsDistinct nat_eq (h.once.nodes ++ s.position ∷ [])
       distinct_node = distinct_more h.once.nodes s.position h.once.distinct (λ in'. omega (arith, found_here, h.dearer s there in'))
 
-      next_in_turn : all_edges_of g (h.once.nodes ++ s.position ∷ []) ≡ examined ++ row.items
-      next_in_turn = cc (all_edges_more g h.once.nodes s.position, h.once.in_turn, h.all, append-nil examined, edges_at g s.position row row_is)
+      module _ (row : Vec Edge Global) (row_is : slice_get g s.position ≡ Some row) where
+        next_in_turn : all_edges_of g (h.once.nodes ++ s.position ∷ []) ≡ examined ++ row.items
+        next_in_turn = cc (all_edges_more g h.once.nodes s.position, h.once.in_turn, h.all, append-nil examined, edges_at g s.position row row_is)
 
-      -- the first of its node's edges were examined
-      pub once_part : {after : List Edge} {old new : Contents State} → AreExamined row.items examined after old new → AreExaminedOnce g after
-      once_part so_far = record {
-        nodes = h.once.nodes ++ s.position ∷ [];
-        distinct = distinct_node;
-        left = so_far.others;
-        in_turn = cc (next_in_turn, so_far.first, so_far.examined, append_assoc examined so_far.these so_far.others);
-      }
-
-      module _ (greatest : IsGreatest state_cmp waiting s) {lower : List ℕ} {grown : List State} (R : Relaxes limit s.cost row.items found rest lower grown) where
-        -- what was found at no more than the state costs is final
-        final : (v : ℕ) → get_or found v limit ≤ s.cost → get_or lower v limit ≡ get_or found v limit
-        final v low = elim (R.changes v) [
-          | inl same ↦ same
-          | inr in' ↦ elim (R.adds (state (get_or lower v limit) v) in') [
-            | inl old ↦ omega (arith, apart_left.above (state (get_or lower v limit) v) old, R.falls v)
-            | inr along ↦ omega (arith, along.costs, low, R.falls v)
-          ]
-        ]
-
-        low_of : (v : ℕ) → Contains (h.once.nodes ++ s.position ∷ []) v → get_or found v limit ≤ s.cost
-        low_of v in' = elim (Contains-push_cases h.once.nodes s.position v in') [
-          | inl before ↦ omega (arith, h.earlier v before, h.later s there)
-          | inr same ↦ omega (arith, found_here, ap (λ (i : ℕ). get_or found i limit) same)
-        ]
-
-        later_of : (t : State) → Contains grown t → s.cost ≤ t.cost
-        later_of t in' = elim (R.adds t in') [
-          | inl old ↦ no_cheaper waiting s greatest t (left t old)
-          | inr along ↦ omega (arith, along.costs)
-        ]
-
-        -- a state that waited beside it
-        dearer_left : (t : State) → Contains rest t → Contains (h.once.nodes ++ s.position ∷ []) t.position → get_or found t.position limit < t.cost
-        dearer_left t old node = elim (Contains-push_cases h.once.nodes s.position t.position node) [
-          | inl before ↦ h.dearer t (left t old) before
-          | inr same ↦ elim (cases_lt s.cost t.cost) [
-            | inl less ↦ omega (arith, less, found_here, ap (λ (i : ℕ). get_or found i limit) same)
-            | inr le ↦
-                let cost : t.cost ≡ s.cost = omega (arith, no_cheaper waiting s greatest t (left t old)) in
-                absurd (not_twice s waiting rest h.apart.distinct bag (subst (Contains rest) (ap (λ (c : ℕ). state c t.position) cost ∙ ap (state s.cost) (sym same)) old))
-          ]
-        ]
-
-        -- all of its node's edges were examined
-        pub once_more : {after : List Edge} → after ≡ examined ++ row.items → AreOnce limit g lower grown after
-        once_more {after} all = record {
-          once = record { nodes = h.once.nodes ++ s.position ∷ []; distinct = distinct_node; left = []; in_turn = next_in_turn ∙ sym all ∙ sym (append-nil after) };
-          all = refl;
-          apart = R.apart apart_left;
-          last = s.cost;
-          later = later_of;
-          earlier = λ v in'. omega (arith, final v (low_of v in'), low_of v in');
-          dearer = λ t in' node.
-              let low = low_of t.position node in
-              let kept = final t.position low in
-              elim (R.cheaper t in') [
-                | inl old ↦ omega (arith, kept, dearer_left t old node)
-                | inr lower ↦ absurd (omega (arith, lower, low, later_of t in'))
-              ];
+        -- the first of its node's edges were examined
+        pub once_part : {after : List Edge} (these others : List Edge) → row.items ≡ these ++ others → after ≡ examined ++ these → AreExaminedOnce g after
+        once_part these others first so_far = record {
+          nodes = h.once.nodes ++ s.position ∷ [];
+          distinct = distinct_node;
+          left = others;
+          in_turn = cc (next_in_turn, first, so_far, append_assoc examined these others);
         }
+
+        module _ (low : (x : State) → Contains waiting x → s.cost ≤ x.cost) {lower : List ℕ} {grown : List State} (R : Relaxes limit s.cost row.items found rest lower grown) where
+          -- what was found at no more than the state costs is final
+          final : (v : ℕ) → get_or found v limit ≤ s.cost → get_or lower v limit ≡ get_or found v limit
+          final v under = elim (R.changes v) [
+            | inl same ↦ same
+            | inr in' ↦ elim (R.adds (state (get_or lower v limit) v) in') [
+              | inl old ↦ omega (arith, apart_left.above (state (get_or lower v limit) v) old, R.falls v)
+              | inr along ↦ omega (arith, along.costs, under, R.falls v)
+            ]
+          ]
+
+          low_of : (v : ℕ) → Contains (h.once.nodes ++ s.position ∷ []) v → get_or found v limit ≤ s.cost
+          low_of v in' = elim (Contains-push_cases h.once.nodes s.position v in') [
+            | inl before ↦ omega (arith, h.earlier v before, h.later s there)
+            | inr same ↦ omega (arith, found_here, ap (λ (i : ℕ). get_or found i limit) same)
+          ]
+
+          later_of : (t : State) → Contains grown t → s.cost ≤ t.cost
+          later_of t in' = elim (R.adds t in') [
+            | inl old ↦ low t (left t old)
+            | inr along ↦ omega (arith, along.costs)
+          ]
+
+          -- a state that waited beside it
+          dearer_left : (t : State) → Contains rest t → Contains (h.once.nodes ++ s.position ∷ []) t.position → get_or found t.position limit < t.cost
+          dearer_left t old node = elim (Contains-push_cases h.once.nodes s.position t.position node) [
+            | inl before ↦ h.dearer t (left t old) before
+            | inr same ↦ elim (cases_lt s.cost t.cost) [
+              | inl less ↦ omega (arith, less, found_here, ap (λ (i : ℕ). get_or found i limit) same)
+              | inr le ↦
+                  let cost : t.cost ≡ s.cost = omega (arith, low t (left t old)) in
+                  absurd (not_twice s waiting rest h.apart.distinct bag (subst (Contains rest) (ap (λ (c : ℕ). state c t.position) cost ∙ ap (state s.cost) (sym same)) old))
+            ]
+          ]
+
+          -- all of its node's edges were examined
+          pub once_more : {after : List Edge} → after ≡ examined ++ row.items → AreOnce limit g lower grown after
+          unfolding once_part
+          once_more {after} all = record {
+            once = once_part row.items [] (sym (append-nil row.items)) all;
+            all = refl;
+            apart = R.apart apart_left;
+            last = s.cost;
+            later = later_of;
+            earlier = λ v in'. omega (arith, final v (low_of v in'), low_of v in');
+            dearer = λ t in' node.
+                let under = low_of t.position node in
+                let kept = final t.position under in
+                elim (R.cheaper t in') [
+                  | inl old ↦ omega (arith, kept, dearer_left t old node)
+                  | inr lower ↦ absurd (omega (arith, lower, under, later_of t in'))
+                ];
+          }
+
+          pub once_more_nodes : {after : List Edge} (all : after ≡ examined ++ row.items) → (once_more all).once.nodes ≡ h.once.nodes ++ s.position ∷ []
+          unfolding once_more once_part
+          once_more_nodes all = refl
+
+-- nodes whose edges were examined: none as the search begins
+pub once_begins_nodes : (limit : ℕ) (g : Graph) (found : List ℕ) {waiting : List State} {examined : List Edge} (start : ℕ) (within : start < length found)
+    (bag : IsSameBag (state 0 start ∷ []) waiting) (none : examined ≡ []) → (once_begins {limit = limit} {g = g} found start within bag none).once.nodes ≡ []
+unfolding once_begins none_examined
+once_begins_nodes limit g found start within bag none = refl
 
 -- how many states were taken so far, and what the pushes and pops cost, where so many edges were examined
 pub record IsCharged (old : ℕ) (heap : Contents State) (examined : ℕ) : Type 0 where
@@ -151,12 +172,14 @@ pub record IsCharged (old : ℕ) (heap : Contents State) (examined : ℕ) : Type
   pub few : pops + length heap.items ≤ examined + 1
   pub counted : RisesWithin old heap.comparisons ((pops + length heap.items) * push_bound 3 examined + pops * pop_bound 3 (examined + 1))
 
-pub charged_begins : (old new : Contents State) → old.items ≡ [] → length new.items ≡ length old.items + 1 → RisesWithin old.comparisons new.comparisons (push_bound 3 (length old.items)) → IsCharged old.comparisons new 0
+pub charged_begins : (old new : Contents State) → old.items ≡ [] → length new.items ≡ length old.items + 1 → RisesWithin old.comparisons new.comparisons (push_bound 3 (length old.items)) →
+    IsCharged old.comparisons new 0
 charged_begins old new none one push =
     let single : length new.items ≡ 1 = omega (arith, one, ap length none) in
     record { pops = 0; few = omega (arith, single); counted = rw single (record { rises = push.rises; within = omega (arith, rw none at push.within) }) }
 
-pub charged_pop : {start examined : ℕ} {old new : Contents State} {s : State} → IsCharged start old examined → IsSameBag old.items (s ∷ new.items) → RisesWithin old.comparisons new.comparisons (pop_bound 3 (length old.items)) → IsCharged start new examined
+pub charged_pop : {start examined : ℕ} {old new : Contents State} {s : State} → IsCharged start old examined → IsSameBag old.items (s ∷ new.items) →
+    RisesWithin old.comparisons new.comparisons (pop_bound 3 (length old.items)) → IsCharged start new examined
 charged_pop {start} {examined} {old} {new} h bag pop =
     let one : length old.items ≡ length new.items + 1 = omega (arith, length_permutation _ _ bag) in
     let before = rw one at h.counted in
@@ -170,7 +193,8 @@ charged_pop {start} {examined} {old} {new} h bag pop =
       };
     }
 
-pub charged_push : {start : ℕ} {edges before after : List Edge} {old new : Contents State} → IsCharged start old (length before) → AreExamined edges before after old new → IsCharged start new (length after)
+pub charged_push : {start : ℕ} {edges before after : List Edge} {old new : Contents State} → IsCharged start old (length before) → AreExamined edges before after old new →
+    IsCharged start new (length after)
 charged_push {before = before} {after} {old} {new} h so_far =
     let push = so_far.pushes in
     let most = length before + length so_far.these in
@@ -193,7 +217,8 @@ charged_push {before = before} {after} {old} {new} h so_far =
       };
     }
 
-pub charged_ends : {start examined : ℕ} {heap : Contents State} → IsCharged start heap examined → RisesWithin start heap.comparisons ((examined + 1) * (push_bound 3 examined + pop_bound 3 (examined + 1)))
+pub charged_ends : {start examined : ℕ} {heap : Contents State} → IsCharged start heap examined →
+    RisesWithin start heap.comparisons ((examined + 1) * (push_bound 3 examined + pop_bound 3 (examined + 1)))
 charged_ends {start} {examined} {heap} h =
     let some : h.pops ≤ examined + 1 = omega (arith, h.few) in
     record {
@@ -239,7 +264,8 @@ edges_long (row ∷ rows) (suc u) = edges_long rows u
 
 all_edges_long : (g : Graph) (nodes : List ℕ) → length (all_edges_of g nodes) ≡ sum_by (λ v. get_or (map (λ row. length row.items) g) v 0) nodes
 all_edges_long g [] = refl
-all_edges_long g (u ∷ nodes) = omega (arith, length-append (edges_of g u) (all_edges_of g nodes), edges_long g u, all_edges_long g nodes, sum_by-cons (λ v. get_or (map (λ row. length row.items) g) v 0) u nodes)
+all_edges_long g (u ∷ nodes) =
+    omega (arith, length-append (edges_of g u) (all_edges_of g nodes), edges_long g u, all_edges_long g nodes, sum_by-cons (λ v. get_or (map (λ row. length row.items) g) v 0) u nodes)
 
 -- the edges of nodes of which no two are the same are no more than all edges
 pub once_few : {g : Graph} {examined : List Edge} → AreExaminedOnce g examined → length examined ≤ sum_by (λ row. length row.items) g

@@ -1,5 +1,7 @@
 -- Edges that are examined one after another.
-use Rattle.dary_heap.proofs.{◌≡◌, ◌⊎◌, ℕ, ◌+◌, ◌<◌, ◌≤◌, inl, inr, List, [], ◌∷◌, ◌++◌, length, Contains, arith, get_or, refl, sym, ap, ◌∙◌, subst, get_or-set_same, get_or-set_other, cases_eq, get_or_default, Contains-push, Contains-append_left, Contains-append_right, Contains-append_cases, length_permutation, sum_by-set, IsSameBag, state, IsAlong, Relaxes, Edge, State, set, length-set, came_first, came_later, came_cases, alone}
+use Rattle.dary_heap.proofs.{◌≡◌, ◌⊎◌, ℕ, ◌+◌, ◌<◌, ◌≤◌, inl, inr, List, [], ◌∷◌, ◌++◌, length, Contains, arith, get_or, refl, sym, ap, ◌∙◌, subst, get_or-set_same, get_or-set_other, cases_eq}
+use Rattle.dary_heap.proofs.{get_or_default, Contains-push, Contains-append_left, Contains-append_right, Contains-append_cases, length_permutation, sum_by-set, IsSameBag, state, IsAlong, Relaxes}
+use Rattle.dary_heap.proofs.{Edge, State, set, length-set, came_first, came_later, came_cases, alone}
 use Rattle.dary_heap.proofs.shortest_path.Apart.{apart_more}
 
 -- what the code read as the cost found
@@ -7,7 +9,7 @@ pub found_is : (limit : ℕ) (found : List ℕ) (i x : ℕ) → i < length found
 found_is limit found i x within read = read ∙ get_or_default found i x limit within
 
 -- a cost after one was written
-written : (limit : ℕ) (found : List ℕ) (i c v : ℕ) → i < length found → (v ≡ i) × (get_or (set found i c) v limit ≡ c) ⊎ (get_or (set found i c) v limit ≡ get_or found v limit)
+pub written : (limit : ℕ) (found : List ℕ) (i c v : ℕ) → i < length found → (v ≡ i) × (get_or (set found i c) v limit ≡ c) ⊎ (get_or (set found i c) v limit ≡ get_or found v limit)
 written limit found i c v within = elim (cases_eq v i) [
   | inl is ↦ inl (is, rw is (get_or-set_same found i c limit within))
   | inr ne ↦ inr (get_or-set_other found i v c limit ne)
@@ -25,7 +27,7 @@ module _ {limit cost : ℕ} where
       falls = λ v. omega arith;
       sums = λ d h. subst (λ (d : Edge). cost + d.cost < limit) (alone e d h) below;
       ends = λ d h. subst (λ (d : Edge). get_or found d.node limit ≤ cost + d.cost) (alone e d h) (omega (arith, found_is limit found e.node x within read));
-      keeps = λ s h. h;
+      keeps = λ s h. inl h;
       adds = λ s h. inl h;
       cheaper = λ s h. inl h;
       apart = λ h. h;
@@ -34,7 +36,8 @@ module _ {limit cost : ℕ} where
     }
 
     -- the edge leads to something cheaper
-    pub relaxes_lower : {grown : List State} → cost + e.cost < x → IsSameBag (state (cost + e.cost) e.node ∷ waiting) grown → Relaxes limit cost (e ∷ []) found waiting (set found e.node (cost + e.cost)) grown
+    pub relaxes_lower : {grown : List State} → cost + e.cost < x → IsSameBag (state (cost + e.cost) e.node ∷ waiting) grown →
+        Relaxes limit cost (e ∷ []) found waiting (set found e.node (cost + e.cost)) grown
     relaxes_lower {grown} under bag =
         let c = cost + e.cost in
         let next = state c e.node in
@@ -48,7 +51,7 @@ module _ {limit cost : ℕ} where
           falls = falls;
           sums = λ d h. subst (λ (d : Edge). cost + d.cost < limit) (alone e d h) below;
           ends = λ d h. subst (λ (d : Edge). get_or (set found e.node c) d.node limit ≤ cost + d.cost) (alone e d h) (omega (arith, get_or-set_same found e.node c limit within));
-          keeps = λ s h. came_later next waiting grown s bag h;
+          keeps = λ s h. inl (came_later next waiting grown s bag h);
           adds = λ s h. elim (came_cases next waiting grown s bag h) [
             | inl is ↦ inr record { edge = e; stands = Contains-push [] e; ends = sym (ap (λ (s : State). s.position) is); costs = sym (ap (λ (s : State). s.cost) is) }
             | inr old ↦ inl old
@@ -72,13 +75,14 @@ module _ {limit cost : ℕ} where
         }
 
   -- edges, and then more edges
-  pub relaxes_more : {edges more : List Edge} {found mid lower : List ℕ} {waiting between grown : List State} → Relaxes limit cost edges found waiting mid between → Relaxes limit cost more mid between lower grown → Relaxes limit cost (edges ++ more) found waiting lower grown
+  pub relaxes_more : {edges more : List Edge} {found mid lower : List ℕ} {waiting between grown : List State} → Relaxes limit cost edges found waiting mid between →
+      Relaxes limit cost more mid between lower grown → Relaxes limit cost (edges ++ more) found waiting lower grown
   relaxes_more {edges} {more} {mid = mid} a b = record {
     same = b.same ∙ a.same;
     falls = λ v. omega (arith, a.falls v, b.falls v);
     sums = λ e h. elim (Contains-append_cases edges more e h) [ inl c ↦ a.sums e c | inr c ↦ b.sums e c ];
     ends = λ e h. elim (Contains-append_cases edges more e h) [ inl c ↦ omega (arith, a.ends e c, b.falls e.node) | inr c ↦ b.ends e c ];
-    keeps = λ s h. b.keeps s (a.keeps s h);
+    keeps = λ s h. elim (a.keeps s h) [ inl c ↦ b.keeps s c | inr less ↦ inr (omega (arith, less, b.falls s.position)) ];
     adds = λ s h. elim (b.adds s h) [
       | inl c ↦ elim (a.adds s c) [
         | inl old ↦ inl old
@@ -89,7 +93,10 @@ module _ {limit cost : ℕ} where
     cheaper = λ s h. elim (b.cheaper s h) [ inl c ↦ a.cheaper s c | inr lower ↦ inr (omega (arith, lower, a.falls s.position)) ];
     apart = λ before. b.apart (a.apart before);
     changes = λ v. elim (b.changes v) [
-      | inl e ↦ elim (a.changes v) [ inl d ↦ inl (e ∙ d) | inr c ↦ inr (rw e (b.keeps (state (get_or mid v limit) v) c)) ]
+      | inl e ↦ elim (a.changes v) [
+        | inl d ↦ inl (e ∙ d)
+        | inr c ↦ elim (b.keeps (state (get_or mid v limit) v) c) [ inl still ↦ inr (rw e still) | inr less ↦ absurd (omega (arith, less, e)) ]
+      ]
       | inr c ↦ inr c
     ];
     spent = omega (arith, a.spent, b.spent);

@@ -1,6 +1,8 @@
 -- Walks, edge by edge; what holds of a search each time that a state is about to be taken, and what follows from it.
-use Rattle.dary_heap.proofs.{◌≡◌, ℕ, ◌+◌, ◌<◌, List, [], ◌∷◌, ◌++◌, Contains, All, arith, refl, sym, subst, Some, slice_get, Vec, Global, All-contains, slice_get_within, get_or_from_slice_get, Graph, IsWithin, HasEdge, IsWalk, cost_of, Edge, ◌≢◌, ◌⊎◌, ◌≤◌, min, inl, inr, length, get_or, get_or-set_same, get_or-set_other, ap, ◌∙◌, cases_lt, cases_eq, get_or_past, IsPermutation-sym, slice_get_read, IsSameBag, IsGreatest, state_cmp, state, Relaxes, State, get_or-replicate, length-replicate, HasTooLarge, IsLeastCost, IsUnreached, HasCritical, NoneCriticalBelow, holds_none, came_alone, came_first, came_later, came_cases, set, length-set, replicate}
-use Rattle.dary_heap.proofs.shortest_path.Apart.{no_cheaper}
+use Rattle.dary_heap.proofs.{◌≡◌, ℕ, ◌+◌, ◌<◌, List, [], ◌∷◌, ◌++◌, Contains, All, arith, refl, sym, subst, Some, slice_get, Vec, Global, All-contains, slice_get_within, get_or_from_slice_get}
+use Rattle.dary_heap.proofs.{Graph, IsWithin, HasEdge, IsWalk, cost_of, Edge, ◌≢◌, ◌⊎◌, ◌≤◌, min, inl, inr, length, get_or, get_or-set_same, get_or-set_other, ap, ◌∙◌, cases_lt, cases_eq}
+use Rattle.dary_heap.proofs.{get_or_past, IsPermutation-sym, slice_get_read, IsSameBag, state, Relaxes, State, get_or-replicate, length-replicate, HasTooLarge, IsLeastCost, IsUnreached, HasCritical}
+use Rattle.dary_heap.proofs.{NoneCriticalBelow, holds_none, came_alone, came_first, came_later, came_cases, set, length-set, replicate}
 use Rattle.dary_heap.proofs.shortest_path.Relaxing.{found_is}
 
 -- some walk from u to v costs c
@@ -70,7 +72,8 @@ alike n v a = elim (cases_lt v n) [
 ]
 
 -- the search as it begins: no cost is found, and then 0 for the start, whose state alone waits
-pub search_begins : {limit : ℕ} {g : Graph} {start goal : ℕ} {nothing : List ℕ} {waiting : List State} (n : ℕ) → 0 < limit → n ≡ length g → start < n → nothing ≡ replicate n limit → IsSameBag (state 0 start ∷ []) waiting → IsSearch limit g start goal (set nothing start 0) waiting
+pub search_begins : {limit : ℕ} {g : Graph} {start goal : ℕ} {nothing : List ℕ} {waiting : List State} (n : ℕ) → 0 < limit → n ≡ length g → start < n → nothing ≡ replicate n limit →
+    IsSameBag (state 0 start ∷ []) waiting → IsSearch limit g start goal (set nothing start 0) waiting
 search_begins {limit} {g} {start} {goal} {nothing} {waiting} n positive many near all bag =
     let found = set nothing start 0 in
     let long : length found ≡ n = length-set nothing start 0 ∙ ap length all ∙ length-replicate n limit in
@@ -84,7 +87,8 @@ search_begins {limit} {g} {start} {goal} {nothing} {waiting} n positive many nea
         | inl is ↦ rw is (rw here (reaches_self g start))
         | inr ne ↦ absurd (omega (arith, there v ne))
       ];
-      waits = λ x h. subst (IsWaiting limit g start goal found) (came_alone (state 0 start) waiting x bag h) record { within = omega (arith, long); below = positive; above = omega arith; reached = reaches_self g start };
+      waits = λ x h. subst (IsWaiting limit g start goal found)
+          (came_alone (state 0 start) waiting x bag h) record { within = omega (arith, long); below = positive; above = omega arith; reached = reaches_self g start };
       settled = λ u some. elim (cases_eq u start) [
         | inl is ↦ inl (rw is (rw here (came_first (state 0 start) [] waiting bag)))
         | inr ne ↦ absurd (omega (arith, there u ne))
@@ -124,7 +128,8 @@ module _ {limit : ℕ} {g : Graph} {start goal : ℕ} {found : List ℕ} where
 
   module _ {waiting : List State} (S : IsSearch limit g start goal found waiting) where
     -- where no state that waits costs less than c, a walk costs at least what was found for its end, or c
-    bounded : (c : ℕ) → c ≤ limit → ((x : State) → Contains waiting x → c ≤ x.cost) → (walk : List Edge) (u v b : ℕ) → min (get_or found u limit) c ≤ b → IsWalk g u walk v → min (get_or found v limit) c ≤ b + cost_of walk
+    bounded : (c : ℕ) → c ≤ limit → ((x : State) → Contains waiting x → c ≤ x.cost) → (walk : List Edge) (u v b : ℕ) → min (get_or found u limit) c ≤ b → IsWalk g u walk v →
+        min (get_or found v limit) c ≤ b + cost_of walk
     bounded c small low [] u v b h leads = subst (λ (w : ℕ). min (get_or found w limit) c ≤ b + 0) leads (omega arith)
     bounded c small low (e ∷ walk) u v b h leads =
         let there : min (get_or found e.node limit) c ≤ b + e.cost = elim (cases_lt (get_or found u limit) limit) [
@@ -169,10 +174,8 @@ module _ {limit : ℕ} {g : Graph} {start goal : ℕ} {found : List ℕ} where
         ];
       }
 
-      module _ (greatest : IsGreatest state_cmp waiting s) where
-        low : (x : State) → Contains waiting x → s.cost ≤ x.cost
-        low = no_cheaper waiting s greatest
-
+      -- no state that waits is cheaper
+      module _ (low : (x : State) → Contains waiting x → s.cost ≤ x.cost) where
         bound : (walk : List Edge) (v : ℕ) → IsWalk g start walk v → min (get_or found v limit) s.cost ≤ cost_of walk
         bound walk v leads = omega (arith, bounded s.cost (omega (arith, taken.below)) low walk start v 0 (omega (arith, S.begun)) leads)
 
@@ -209,8 +212,8 @@ module _ {limit : ℕ} {g : Graph} {start goal : ℕ} {found : List ℕ} where
 
       module _ (other : s.position ≢ goal) (same : get_or found s.position limit ≡ s.cost) (row : Vec Edge Global) (row_is : slice_get g s.position ≡ Some row) where
         -- an edge of the node costs too much
-        pub too_large : IsGreatest state_cmp waiting s → HasTooLarge limit s.cost row.items → HasCritical limit g start goal
-        too_large greatest large = record {
+        pub too_large : ((x : State) → Contains waiting x → s.cost ≤ x.cost) → HasTooLarge limit s.cost row.items → HasCritical limit g start goal
+        too_large low large = record {
           node = s.position;
           cost = s.cost;
           critical = record {
@@ -219,13 +222,13 @@ module _ {limit : ℕ} {g : Graph} {start goal : ℕ} {found : List ℕ} where
               walk = taken.reached.walk;
               leads = taken.reached.leads;
               costs = taken.reached.costs;
-              least = λ walk leads. omega (arith, bound greatest walk s.position leads, same);
+              least = λ walk leads. omega (arith, bound low walk s.position leads, same);
             };
             edge = large.edge;
             leaves = record { row = row; row_is = row_is; stands = large.stands };
             too_large = large.too_large;
           };
-          at_most = to_goal greatest;
+          at_most = to_goal low;
         }
 
         -- the edges of the node are examined
@@ -259,10 +262,14 @@ module _ {limit : ℕ} {g : Graph} {start goal : ℕ} {found : List ℕ} where
               }
 
           -- a node whose cost stayed
-          settled_on : (u : ℕ) → get_or lower u limit ≡ get_or found u limit → Contains waiting (state (get_or found u limit) u) ⊎ IsExamined limit g start goal found u → Contains grown (state (get_or lower u limit) u) ⊎ IsExamined limit g start goal lower u
+          settled_on : (u : ℕ) → get_or lower u limit ≡ get_or found u limit → Contains waiting (state (get_or found u limit) u) ⊎ IsExamined limit g start goal found u →
+              Contains grown (state (get_or lower u limit) u) ⊎ IsExamined limit g start goal lower u
           settled_on u stayed (inl waits) = elim (came_cases s rest waiting (state (get_or found u limit) u) held waits) [
             | inl is ↦ inr (examined u (sym is) stayed)
-            | inr left ↦ inl (rw stayed (R.keeps (state (get_or found u limit) u) left))
+            | inr left ↦ elim (R.keeps (state (get_or found u limit) u) left) [
+              | inl still ↦ inl (rw stayed still)
+              | inr less ↦ absurd (omega (arith, less, stayed))
+            ]
           ]
           settled_on u stayed (inr old) = inr record { other = old.other; sums = λ e has. rw stayed (old.sums e has); ends = λ e has. omega (arith, stayed, old.ends e has, R.falls e.node) }
 

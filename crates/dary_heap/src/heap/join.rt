@@ -120,7 +120,7 @@ impl<'a, T: Copy> Element<T> for &'a T {
     }
 }
 
-/// Puts what the iterator gives behind the items while there is room, and returns whether it ended.
+/// Appends items while there is room. Returns `true` if the iterator has ended.
 ///
 /// The vector comes by value, which keeps its length in a register.
 fn pour<T, X: Element<T>, I: Iterator<Item = X>>(

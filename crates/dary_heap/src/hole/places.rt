@@ -1,7 +1,7 @@
 //! The places of a slice: all of them, or all but one, the hole.
 ghost use Rattle.std.specs.Prelude.{◌≡◌, ◌≢◌, ◌^◌, ◌<◌, ℕ, List, length, slice_index_or, slice_set};
 ghost use Rattle.core.specs.Mem.Slots.Ownership.{owned, lent};
-ghost use Rattle.dary_heap.specs.Places.{all_filled, filled_but};
+ghost use Rattle.dary_heap.specs.hole.Places.{all_filled, filled_but};
 
 use std::marker::Model;
 

@@ -184,7 +184,7 @@ impl<T, const D: usize, J: Judge<T>> Deref for PeekMut<'_, T, D, J> {
 /// assert_eq!(rt; heap.as_slice(), [3, 1, 2].as_slice());
 /// ```
 impl<T, const D: usize, J: Judge<T>> DerefMut for PeekMut<'_, T, D, J> {
-    ghost use Rattle.dary_heap.specs.Lending.{lends_first};
+    ghost use Rattle.dary_heap.specs.LoanWrites.{lends_first};
 
     ghost deref_mut_gives = { λ loan item. front (loaned loan).items ≡ Some item };
 

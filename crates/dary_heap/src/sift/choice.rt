@@ -4,11 +4,12 @@
 //! the next comparison waits for no load. But the load of the next row waits for the choice. In slices that are
 //! longer than the caches a choice with branches is faster: the processor guesses, and loads the next row early. A
 //! wrong guess costs some 20 cycles, and a row from main memory some 300.
-ghost use Rattle.std.specs.Prelude.{◌≡◌, ◌+◌, ◌<◌, ℕ, List};
+ghost use Rattle.std.specs.Prelude.{◌≡◌, ◌+◌, ℕ, List};
 ghost use Rattle.std.specs.declared.cmp.Ordering.{Ordering};
-ghost use Rattle.dary_heap.specs.Choosing.{Chooses, FindsGreatestChild, HasChildrenFrom, IsBelow, IsFirstChild, IsGreatestAt};
+ghost use Rattle.dary_heap.specs.sift.Choosing.{Chooses, FindsGreatestChild, HasChildrenFrom, IsBelow, IsGreatestAt};
 
 use super::Judge;
+use super::tree::arity;
 use crate::hole::Hole;
 
 #[inline(always)]
@@ -148,25 +149,6 @@ pub(super) fn guessed<T, J: Judge<T>>(
     best
 }
 
-/// Returns where the children of place `at` begin among `len` places, or `None` if it has none.
-#[inline(always)]
-pub(super) fn first_child<const D: usize>(at: usize, len: usize) -> Option<usize>
-    requires { at < len }
-    ensures { IsFirstChild D at len result }
-{
-    let arity = D.max(1);
-    // Each place before this one has a whole row of children. This one has what is left, if anything.
-    let whole = (len - 1) / arity;
-    if at < whole {
-        return Some(at * arity + 1);
-    }
-    if whole < at {
-        return None;
-    }
-    let first = at * arity + 1;
-    if first < len { Some(first) } else { None }
-}
-
 /// Returns the last greatest child of the hole, which is at `at` of `len` places and whose children begin at
 /// `first`.
 #[inline(always)]
@@ -180,7 +162,7 @@ pub(super) fn greatest_child<T, J: Judge<T>, const D: usize>(
     requires { HasChildrenFrom D hole.now at first len }
     ensures { FindsGreatestChild J.order D hole.now result (J.count judge.old) (J.count judge.new) }
 {
-    let arity = D.max(1);
+    let arity = arity::<D>();
     if at < (len - 1) / arity {
         return match D {
             2 => place_of_two(hole, first, judge),

@@ -1,6 +1,6 @@
 //! How many entries a heap has room for, and below which number keys have a place.
-ghost use Rattle.std.specs.Prelude.{◌≡◌, ◌+◌, ◌<◌, ◌≤◌, ◌⊎◌, [], length, IfOk, IsOk, OnOk, OnErr};
-ghost use Rattle.indexed_heap.specs.Entries.{AreSound};
+ghost use Rattle.std.specs.Prelude.{◌≡◌, ℕ, ◌+◌, ◌<◌, ◌≤◌, ◌⊎◌, [], length, IfOk, IsOk, OnOk, OnErr};
+ghost use Rattle.indexed_heap.specs.Entries.{AreSound, IsEntry};
 
 use super::IndexedHeap;
 use crate::judge::ByItem;
@@ -44,6 +44,45 @@ impl<T: Ord, const D: usize> IndexedHeap<T, D> {
 }
 
 impl<T, const D: usize, J: Judge<T>> IndexedHeap<T, D, J> {
+    /// Returns the number of entries that there is room for. It is never less than the length. Takes *O*(1), without
+    /// a comparison.
+    ///
+    /// # Examples
+    ///
+    /// ```
+    /// use indexed_heap::IndexedHeap;
+    /// let heap = IndexedHeap::<i32, 4>::with_capacity(alloc, 100, 0)?;
+    /// assert!(rt; heap.capacity() >= 100);
+    /// ```
+    pub fn capacity(&self) -> usize
+        ensures capacity { result ≡ self.now.capacity }
+        ensures holds { length self.now.entries ≤ result }
+    {
+        self.slots.capacity()
+    }
+
+    /// Returns the number below which keys need no room in the table of places. Each key that has an item is below it.
+    /// Takes *O*(1), without a comparison.
+    ///
+    /// An insert allocates memory only if its key has no item, and the length has reached the
+    /// [`capacity`](IndexedHeap::capacity) or the key this number.
+    ///
+    /// # Examples
+    ///
+    /// ```
+    /// use indexed_heap::IndexedHeap;
+    /// let mut heap = IndexedHeap::<_, 4>::with_capacity(alloc, 0, 50)?;
+    /// assert_eq!(rt; heap.keys(), 50);
+    /// heap.insert(60, 1)?;
+    /// assert_eq!(rt; heap.keys(), 61);
+    /// ```
+    pub fn keys(&self) -> usize
+        ensures keys { result ≡ self.now.keys }
+        ensures holds { (at key : ℕ) → IsEntry self.now.entries at key → key < result }
+    {
+        self.places.len()
+    }
+
     /// Reserves room for at least `additional` more entries, and for the keys below `keys`. Makes no comparison.
     ///
     /// After `Ok` that many inserts of such keys allocate no memory, and don't fail. If there is room already, it

@@ -1,5 +1,5 @@
 //! Copies of heaps, and what a heap shows as text.
-ghost use Rattle.std.specs.Prelude.{◌≡◌, ℕ, Contains, IfOk};
+ghost use Rattle.std.specs.Prelude.{◌≡◌, ℕ, Contains, IfOk, IsOk};
 ghost use Rattle.indexed_heap.specs.Making.{IsNew};
 
 use super::IndexedHeap;
@@ -18,7 +18,8 @@ impl<T: Ord, const D: usize> IndexedHeap<T, D> {
     ///
     /// # Errors
     ///
-    /// Returns `AllocError` if memory allocation fails, here or in an item's `clone`.
+    /// Returns `AllocError` if memory allocation fails, here or in an item's `clone`. The call doesn't fail for a heap
+    /// without room for [`keys`](IndexedHeap::keys), such as a new one.
     ///
     /// # Examples
     ///
@@ -37,7 +38,11 @@ impl<T: Ord, const D: usize> IndexedHeap<T, D> {
         ensures entries { IfOk result (λ copy. copy.entries ≡ self.now.entries) }
         ensures keys { IfOk result (λ copy. copy.keys ≡ self.now.keys) }
         ensures uncounted { IfOk result (λ copy. copy.comparisons ≡ 0) }
+        ensures succeeds { self.now.keys ≡ 0 → IsOk result }
     {
+        if self.places.is_empty() {
+            return Ok(IndexedHeap::new(*self.places.allocator()));
+        }
         let places = self.places.clone()?;
         Ok(IndexedHeap {
             slots: self.slots.clone()?,

@@ -41,7 +41,7 @@ impl<T, const D: usize, J: Judge<T>> IndexedHeap<T, D, J> {
     /// Returns an iterator over the entries in descending order of the items. It allocates no memory.
     ///
     /// Entries of equal items come in the order in which pops return them. The call takes no comparison, and each
-    /// entry that is asked for at most as many as a [`pop`](IndexedHeap::pop).
+    /// `next` at most as many as a [`pop`](IndexedHeap::pop).
     ///
     /// # Examples
     ///
@@ -64,7 +64,7 @@ impl<T, const D: usize, J: Judge<T>> IndexedHeap<T, D, J> {
         ensures descending { GivesDescending (by_item J.order) (IsEntryPop J.order D)
             (λ heap. heap.entries) result }
     {
-        // It ensures that the entries are sound.
+        // For the proof: its contract says that the entries are sound.
         let _ = self.as_slice();
         IntoIterSorted { heap: self }
     }

@@ -1,4 +1,5 @@
-use Rattle.dary_heap.proofs.{◌≡◌, ◌↔◌, ◌<◌, List, [], ◌∷◌, length, refl, sym, subst, arith, Option, Some, None, IsSome, IfSome, IfNone, Vec, Global, slice_get, RisesWithin, pop_bound, below_root, popped_is_greatest}
+use Rattle.dary_heap.proofs.{◌≡◌, ◌↔◌, ◌<◌, List, [], ◌∷◌, length, refl, sym, subst, arith, Option, Some, None, IsSome, IfSome, IfNone, Vec, Global, slice_get, RisesWithin, pop_bound, below_root}
+use Rattle.dary_heap.proofs.{popped_is_greatest}
 use Rattle.dary_heap.specs.Contents.{contents_of}
 use Rattle.dary_heap.proofs.heap.pop_ordered.Goals as goal
 

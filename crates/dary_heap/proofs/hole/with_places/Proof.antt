@@ -1,17 +1,24 @@
 -- `with_places` opens the slice, hands its places and the reference to `f`, and closes the slice at the places that come back. Assumes `Logic`.
-use Rattle.dary_heap.proofs.hole.{ℕ, List, [], ◌∷◌, ◌++◌, ◌≡◌, refl, sym, subst, ap, ◌∙◌, length, Ura, ftrue, flft, emp, id⊢, inst_fn, Args, Dict, a_type, dnil, dcons, method, no_args, Val, vstruct, of_list, Model, WpFn, ◌⊑◌, Lfts, fact, fact_i, Running, MachineTables, tables, Logic, ‵, raw, ◌⊛◌, some, later, ◌$◌, ◌∵◌, !, qed, move, keep, use0, use1, split, split3, group, pick, fsplit, fsplit3, fpick, feq_l, suffices, await, done, whole, sub, agg, stop, fld, hop, from, addr, no_more, and_then, of_opd, returns, enter, alloc_all, pass_all, free_all, look_at, look_in_at, get, get_in, through, sets, lands_as, no, Are, Ises, layout, bounded, param, one_value, RattleType, mirs, owns, as_fields, block_ptr, MutBor, mut_vals, pure_i, plain, types_at, Room, slice_val, mut_slice_vals, mut_slice_at, heard, nothing, only, Tuple, Clauses, Ended, Lasts, lasts, Vals, Stays, stay_slice, stay_dropped, gave_ref, Goes-slice, Goes-gave_ref, Goes-dropped, walk_of, ends_at, says, proved_at, El, R, el_x, Good, lawful, true, ◌<◌, ◌^◌, length-replicate, get_or-replicate, full_share, slots, of_row, to_row, Ptr, rewrite, two_words, words, words_fit, Whole, full_row, row_of, row_out, row_in}
+use Rattle.dary_heap.proofs.hole.{ℕ, List, [], ◌∷◌, ◌++◌, ◌≡◌, refl, sym, subst, ap, ◌∙◌, length, Ura, ftrue, flft, emp, id⊢, inst_fn, Args, Dict, a_type, dnil, dcons, method, no_args, Val, vstruct}
+use Rattle.dary_heap.proofs.hole.{of_list, Model, WpFn, ◌⊑◌, Lfts, fact, fact_i, Running, MachineTables, tables, Logic, ‵, raw, ◌⊛◌, some, later, ◌$◌, ◌∵◌, !, qed, move, keep, use0, use1, split}
+use Rattle.dary_heap.proofs.hole.{split3, group, pick, fsplit, fsplit3, fpick, feq_l, suffices, await, done, whole, sub, agg, stop, fld, hop, from, addr, no_more, and_then, of_opd, returns, enter}
+use Rattle.dary_heap.proofs.hole.{alloc_all, pass_all, free_all, look_at, look_in_at, get, get_in, through, sets, lands_as, no, Are, Ises, layout, bounded, param, one_value, RattleType, mirs, owns}
+use Rattle.dary_heap.proofs.hole.{as_fields, block_ptr, MutBor, mut_vals, pure_i, plain, types_at, Room, slice_val, mut_slice_vals, mut_slice_at, heard, nothing, only, Tuple, Clauses, Ended, Lasts}
+use Rattle.dary_heap.proofs.hole.{lasts, Vals, Stays, stay_slice, stay_dropped, gave_ref, Goes-slice, Goes-gave_ref, Goes-dropped, walk_of, ends_at, says, proved_at, El, R, el_x, Good, lawful, true}
+use Rattle.dary_heap.proofs.hole.{◌<◌, ◌^◌, length-replicate, get_or-replicate, full_share, slots, of_row, to_row, Ptr, rewrite, two_words, words, words_fit, Whole, full_row, row_of, row_out}
+use Rattle.dary_heap.proofs.hole.{row_in}
 use denote.Triple.Call.{calls_at}
 use denote.Triple.Entry.{Args as Passed}
 use denote.Triple.Spec.{triple_of}
 use denote.Triple.Statement.{Triple, Contract}
 use denote.Triple.Table.{framed}
-use Rattle.dary_heap.specs.Hole.{IsSameSlice}
+use Rattle.dary_heap.specs.hole.Hole.{IsSameSlice}
 use Rattle.dary_heap.specs.declared.hole.places.Places.{Places}
 use Rattle.dary_heap.specs.contracts.hole.with_places.Key.{name}
 use Rattle.dary_heap.proofs.hole.WalksAt.{Walk, one_valued}
 use Rattle.dary_heap.proofs.hole.with_places.Statement.{statement}
 use denote.Index.{row as row_at, opens_slice, closes_slice}
-use Rattle.dary_heap.specs.Places.{all_filled}
+use Rattle.dary_heap.specs.hole.Places.{all_filled}
 use denote.Param.Call as call
 use Rattle.dary_heap.specs.contracts.hole.with_places as f
 use Rattle.dary_heap.specs.contracts.hole.with_places.F-FnOnce as taken
@@ -36,7 +43,8 @@ module _ (I S Y F : El) (g : taken.Ghosts I.row S.row Y.row F.row) (d d' : Dict)
 
   -- what `f` is known to do
   abbrev Asked : {M : Type 1} {𝓤 : Ura M} (𝓛 : Logic 𝓤) → Contract 𝓤
-  Asked 𝓛 = triple_of 𝓛 asked.signature (call.spec asked 4 (λ κs. (κs.1.0, (κs.1.1.0, (κs.1.1.1.0, (κs.1.1.1.1.0, tt))))) (F.row.lives, (I.row.lives, (S.row.lives, (Y.row.lives, tt)))) (taken.pair I.row S.row Y.row F.row g) (λ κs a. a) (λ κs r. r) (λ κs s. s) 𝓛)
+  Asked 𝓛 = triple_of 𝓛 asked.signature (call.spec asked 4 (λ κs. (κs.1.0, (κs.1.1.0, (κs.1.1.1.0, (κs.1.1.1.1.0, tt))))) (F.row.lives, (I.row.lives, (S.row.lives, (Y.row.lives, tt))))
+      (taken.pair I.row S.row Y.row F.row g) (λ κs a. a) (λ κs r. r) (λ κs s. s) 𝓛)
 
   module _ {M : Type 1} {𝓤 : Ura M} (𝓛 : Logic 𝓤) (𝓜 : Model 𝓤 𝓛.H) (𝓡 : Running 𝓤 𝓛.H 𝓜) where
     abbrev c : Clauses 𝓤 lent
@@ -59,7 +67,8 @@ module _ (I S Y F : El) (g : taken.Ghosts I.row S.row Y.row F.row) (d d' : Dict)
           let z : W.Ghost = ((κs, qs, y.0.2, a, (mut_slice_vals a.0, (mut_vals a.1.0, (w ∷ [], tt)))), y.1) in
           let row : Places (el_x I) = full_row I b o xs room in
           let Callable : Type 0 = (p : Places (el_x I)) (s : MutBor (el_x S)) → p.items ≡ xs → s.now ≡ a.1.0.now → f.F-pre I.row S.row Y.row F.row g d d' fn p s in
-          let Same : Type 0 = (p : Places (el_x I)) (s : MutBor (el_x S)) (out : Out.Denot) (t : MutBor (el_x S)) → p.items ≡ xs → f.F-post I.row S.row Y.row F.row g d d' fn p s out t → IsSameSlice p out.0 in
+          let Same : Type 0 =
+          (p : Places (el_x I)) (s : MutBor (el_x S)) (out : Out.Denot) (t : MutBor (el_x S)) → p.items ≡ xs → f.F-post I.row S.row Y.row F.row g d d' fn p s out t → IsSameSlice p out.0 in
           let κ = κs.1.0 in let τ₁ = κs.1.1.0 in let τ₂ = κs.1.1.1.0 in let τ₃ = κs.1.1.1.1.0 in let τ₄ = κs.1.1.1.1.1.0 in
           let q = qs.1.0 in let q₁ = qs.1.1.0 in let q₂ = qs.1.1.1.0 in let q₃ = qs.1.1.1.1.0 in let q₄ = qs.1.1.1.1.1.0 in
           let κs' : Lfts 5 = (κ, (τ₄, (τ₁, (τ₂, (τ₃, tt))))) in let given : Passed asked.signature κs' = (fn, (row, (a.1.0, tt))) in
@@ -101,17 +110,20 @@ module _ (I S Y F : El) (g : taken.Ghosts I.row S.row Y.row F.row) (d d' : Dict)
           closes_slice ! tt (R I) xs back.items kept.len b o $ let short : n < 2 ^ 64 = room'.0 in move ! (3 ∷ []) $ one_valued Y ! out.1 vss.1.0 (λ r gr result_is.
           -- [the result; the slice's borrow, in two entries; its token; nothing; the other tokens; the reference]
           let back_val : Val = two_words (block_ptr b o) back.len in
-          lands_as ! (ap only pair_is ∙ (λ i. vstruct (of_list (back_is i ++ (result_is i ++ []))))) refl (as_fields (mirs (Whole I ∷ param 2 Y.row ∷ [])) (back_val ∷ r ∷ []) ((tt, words_fit b o back.len short), (gr, tt))) $
+          lands_as ! (ap only pair_is ∙ (λ i. vstruct (of_list (back_is i ++ (result_is i ++ []))))) refl
+          (as_fields (mirs (Whole I ∷ param 2 Y.row ∷ [])) (back_val ∷ r ∷ []) ((tt, words_fit b o back.len short), (gr, tt))) $
           sets ! (of_opd ! (get_in ! (fld ! refl (stop !)) (sub ! 0 refl (whole !)))) refl (tt, words_fit b o back.len short) $
           sets ! (of_opd ! (get_in ! (fld ! refl (stop !)) (sub ! 1 refl (whole !)))) refl gr $
           sets ! (of_opd ! (get ! refl)) refl gr $ returns ! (look_at ! 0 refl) $ free_all ! refl $
           suffices ! _ (ends_at 𝓛 lent left c z r out.1 (back.items, (ws.1.1.0, (tt, tt))) (kept.len, (tt, (tt, tt)))) $ says ! (row, a.1.0, back, now ws, refl, refl, gave, refl, refl) $
           move ! (5 ∷ []) $ split3 ! $ move ! (2 ∷ []) $ split3 ! $ move ! (2 ∷ []) $ split ! $ move ! (9 ∷ 4 ∷ 2 ∷ 3 ∷ 0 ∷ 5 ∷ 1 ∷ []) $ group ! 7 $
-          pure_i ! (mut_slice_at (R I) (record { ref_ptr = (b, o); ghost_name = a.0.ghost_name; now = back.items }) (mut_slice_vals a.0)) (tt, (tt, tt)) (ap (λ m. slice_val (b, o) m ∷ []) (sym kept.len), subst (Room (R I)) (sym kept.len) room) $
+          pure_i ! (mut_slice_at (R I) (record { ref_ptr = (b, o); ghost_name = a.0.ghost_name; now = back.items }) (mut_slice_vals a.0)) (tt, (tt, tt))
+          (ap (λ m. slice_val (b, o) m ∷ []) (sym kept.len), subst (Room (R I)) (sym kept.len) room) $
           move ! (0 ∷ 3 ∷ 4 ∷ []) $ group ! 3 $ move ! (4 ∷ []) $ fsplit3 ! $ move ! (2 ∷ []) $ fsplit ! $
           nothing ! $ move ! (5 ∷ 1 ∷ 0 ∷ 8 ∷ []) $ group ! 4 $ keep ! (4 ∷ 0 ∷ 5 ∷ []) $ group ! 3 $ done !)))))))))))
 
-    pub entry : (does : Triple 𝓤 (𝓣.C (method d 0 no_args)) (Asked 𝓛)) (y : W.Ghost) → Are (types_at lent.signature.params y.0.0) (Ises (types_at lent.signature.params y.0.0)) y.0.3 y.0.4 → Goes y y.0.4
+    pub entry : (does : Triple 𝓤 (𝓣.C (method d 0 no_args)) (Asked 𝓛)) (y : W.Ghost) → Are (types_at lent.signature.params y.0.0) (Ises (types_at lent.signature.params y.0.0)) y.0.3 y.0.4 →
+        Goes y y.0.4
     entry does y are =
         one_value (layout F.row) (λ ws. Goes y (y.0.4.0, (y.0.4.1.0, (ws, tt)))) y.0.4.1.1.0 ((lawful F 𝓛).typed y.0.3.1.1.0 _ are.1.1.0) (λ w gw.
         subst (λ vs. Goes y (vs, (y.0.4.1.0, (w ∷ [], tt)))) (sym are.0.0.0)

@@ -12,7 +12,19 @@ returns-in_default g c = serves_same refl c.len.ensures.ordered (refused _ c.arg
 pub unwrap-requires : goal.unwrap-requires
 unwrap-requires g c =
     let before = c.loop.invariant in
-    some_since c.next.result _ _ c.next.ensures.steps (λ none. omega (arith, c.loop-test.true, c.min-count.ensures, c.len.ensures.len, ap length c.drain-rest.ensures.items, ap length before.parts, length-append c.loop.taken.items (drain_rest c.loop.rest), c.loop.taken.ok.0, before.long, ap length none.0))
+    some_since c.next.result _ _ c.next.ensures.steps (λ none.
+    omega (
+      arith,
+      c.loop-test.true,
+      c.min-count.ensures,
+      c.len.ensures.len,
+      ap length c.drain-rest.ensures.items,
+      ap length before.parts,
+      length-append c.loop.taken.items (drain_rest c.loop.rest),
+      c.loop.taken.ok.0,
+      before.long,
+      ap length none.0,
+    ))
 
 pub loop-preserved : goal.loop-preserved
 loop-preserved g c =
@@ -20,7 +32,8 @@ loop-preserved g c =
     let x = c.unwrap.result in
     let was = rw c.unwrap.ensures at c.next.ensures.steps in
     record {
-      parts = before.parts ∙ ap (λ xs. c.loop.taken.items ++ xs) was ∙ sym (append_assoc c.loop.taken.items (x ∷ []) (drain_rest c.next.new.self)) ∙ sym (ap (λ xs. xs ++ (drain_rest c.next.new.self)) c.push_reserved.ensures.items);
+      parts = before.parts ∙ ap (λ xs. c.loop.taken.items ++ xs) was ∙ sym (append_assoc c.loop.taken.items (x ∷ []) (drain_rest c.next.new.self))
+          ∙ sym (ap (λ xs. xs ++ (drain_rest c.next.new.self)) c.push_reserved.ensures.items);
       long = omega (arith, c.push_reserved.ensures.len, before.long);
       space = omega (arith, c.push_reserved.ensures.capacity, before.space);
     }

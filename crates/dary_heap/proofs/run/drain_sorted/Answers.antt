@@ -1,4 +1,5 @@
-use Rattle.dary_heap.proofs.Common.{◌≡◌, length, min, refl, sym, ap, arith, is_some, nil_from_length, zero-le, Contents, drained_heap, ℕ, zero, suc, ◌+◌, ◌<◌, ◌≤◌, Bool, List, [], ◌∷◌, ◌∙◌, IsTotalOrder, Ordering, Yields, RisesWithin, pops_bound, Command, Reply, PopsInTurn, Serves, Yields-more, DrainsSorted}
+use Rattle.dary_heap.proofs.Common.{◌≡◌, length, min, refl, sym, ap, arith, is_some, nil_from_length, zero-le, Contents, drained_heap, ℕ, zero, suc, ◌+◌, ◌<◌, ◌≤◌, Bool, List, [], ◌∷◌, ◌∙◌}
+use Rattle.dary_heap.proofs.Common.{IsTotalOrder, Ordering, Yields, RisesWithin, pops_bound, Command, Reply, PopsInTurn, Serves, Yields-more, DrainsSorted}
 use Rattle.dary_heap.proofs.Fronts.{ordered_state}
 use Rattle.dary_heap.proofs.run.Serving.{refused, serves_emptied, serves_same}
 use Rattle.dary_heap.proofs.Popping.{keeps_heap_along, pops_bound_step}
@@ -8,7 +9,8 @@ use Rattle.dary_heap.proofs.run.drain_sorted.Goals as goal
 
 module _ {X J : Type 0} (cmp : X → X → Ordering) {D : ℕ} where
   -- as many as were wanted, or all
-  drained_in_turn : IsTotalOrder cmp → (k : ℕ) (first : DrainSorted X D J) (taken : List X) (later : DrainSorted X D J) → Yields (DrainsSorted cmp) first taken later → length taken ≤ k → (length taken < k → (drained_heap later).items ≡ []) → PopsInTurn cmp (drained_heap first).items k taken
+  drained_in_turn : IsTotalOrder cmp → (k : ℕ) (first : DrainSorted X D J) (taken : List X) (later : DrainSorted X D J) → Yields (DrainsSorted cmp) first taken later → length taken ≤ k →
+      (length taken < k → (drained_heap later).items ≡ []) → PopsInTurn cmp (drained_heap first).items k taken
   drained_in_turn total zero first [] later run few all = refl
   drained_in_turn total zero first (m ∷ taken) later run few all = absurd (omega arith)
   drained_in_turn total (suc k) first [] later run few all = ap (λ (it : DrainSorted X D J). (drained_heap it).items) run ∙ all (omega arith)
@@ -16,7 +18,10 @@ module _ {X J : Type 0} (cmp : X → X → Ordering) {D : ℕ} where
       let pop = run.1.0 in
       ((drained_heap run.0).items, (sym pop.first, pop.bag, ordered_state total D _ pop.ordered), drained_in_turn total k run.0 taken later run.2 (omega arith) (λ fewer. all (omega arith)))
 
-  drained_counts : (first : DrainSorted X D J) (taken : List X) (later : DrainSorted X D J) → Yields (DrainsSorted cmp) first taken later → (length taken + length (drained_heap later).items ≡ length (drained_heap first).items) × RisesWithin (drained_heap first).comparisons ((drained_heap later).comparisons + pops_bound D (length (drained_heap later).items)) (pops_bound D (length (drained_heap first).items)) × ((drained_heap first).comparisons ≤ (drained_heap later).comparisons)
+  drained_counts : (first : DrainSorted X D J) (taken : List X) (later : DrainSorted X D J) → Yields (DrainsSorted cmp) first taken later →
+      (length taken + length (drained_heap later).items ≡ length (drained_heap first).items) ×
+      RisesWithin (drained_heap first).comparisons ((drained_heap later).comparisons + pops_bound D (length (drained_heap later).items)) (pops_bound D (length (drained_heap first).items)) ×
+      ((drained_heap first).comparisons ≤ (drained_heap later).comparisons)
   drained_counts first [] later run = rw run (omega arith, record { rises = omega arith; within = omega arith }, omega arith)
   drained_counts first (m ∷ taken) later run =
       let old = drained_heap first in
@@ -30,7 +35,8 @@ module _ {X J : Type 0} (cmp : X → X → Ordering) {D : ℕ} where
       )
 
 -- what an iterator leaves behind its reference is what the heap is then
-serves_behind : {X P : Type 0} {cmp : X → X → Ordering} {calls : P → X → Bool → P → Type 0} {D : ℕ} {old new : Contents X} {command : Command X P} {reply : Reply X} (end : Contents X) → new ≡ end → Serves cmp calls D old command reply end → Serves cmp calls D old command reply new
+serves_behind : {X P : Type 0} {cmp : X → X → Ordering} {calls : P → X → Bool → P → Type 0} {D : ℕ} {old new : Contents X} {command : Command X P} {reply : Reply X} (end : Contents X) → new ≡ end →
+    Serves cmp calls D old command reply end → Serves cmp calls D old command reply new
 serves_behind end same serves = rw same serves
 
 pub returns-in_default : goal.returns-in_default
@@ -62,6 +68,8 @@ returns g c =
     let last = c.drop-items.ensures.counted in
     let same = keeps_heap_along g.T.Ord.cmp c.drain_sorted-items.result _ _ before.given in
     let items : length c.args.heap.now.items ≡ length old.items = ap (λ (it : Contents g.row.T.Denot). length it.items) (sym begun) in
-    let long : length c.loop.taken.items ≡ min c.args.count (length old.items) = omega (arith, c.min-count.ensures, c.len.ensures.len, items, c.loop.taken.ok.0, before.long, c.loop.auto.counter-end, c.loop-test.false) in
+    let long : length c.loop.taken.items ≡ min c.args.count (length old.items) =
+    omega (arith, c.min-count.ensures, c.len.ensures.len, items, c.loop.taken.ok.0, before.long, c.loop.auto.counter-end, c.loop-test.false) in
     let in_turn = drained_in_turn g.T.Ord.cmp g.met.T.Ord.total c.args.count _ c.loop.taken.items _ before.given (omega (arith, long)) (λ fewer. nil_from_length _ (omega (arith, long, counts.0))) in
-    rw (← begun) (serves_behind c.drop-items.new.self.0 (grind (arith, same)) (serves_emptied c.drop-items.ensures.items (in_turn, refl) (record { rises = omega (arith, counts.2, last.rises); within = omega (arith, counts.1.within, last.within) }) tt zero-le))
+    rw (← begun) (serves_behind c.drop-items.new.self.0 (grind (arith, same))
+    (serves_emptied c.drop-items.ensures.items (in_turn, refl) (record { rises = omega (arith, counts.2, last.rises); within = omega (arith, counts.1.within, last.within) }) tt zero-le))

@@ -1,4 +1,5 @@
-use Rattle.dary_heap.proofs.Common.{◌≡◌, ◌++◌, ◌∷◌, [], length, refl, sym, ap, ◌∙◌, arith, append_assoc, append-nil, length-append, slice_set, map-append, length-map, nil_from_length, into_iter_items, eqb-false, eqb-true, loaned, true≢false, zero-le}
+use Rattle.dary_heap.proofs.Common.{◌≡◌, ◌++◌, ◌∷◌, [], length, refl, sym, ap, ◌∙◌, arith, append_assoc, append-nil, length-append, slice_set, map-append, length-map, nil_from_length}
+use Rattle.dary_heap.proofs.Common.{into_iter_items, eqb-false, eqb-true, loaned, true≢false, zero-le}
 use Rattle.dary_heap.specs.Reading as read
 use Rattle.dary_heap.proofs.Fronts.{same_state}
 use Rattle.dary_heap.proofs.run.Serving.{serves_same}
@@ -16,7 +17,11 @@ pub returns-in_default : goal.returns-in_default
 returns-in_default g c =
     let some = eqb-false _ 0 (sym c.if-is_empty.ensures.empty) in
     let failed = λ (none : c.len.result ≡ 0). true≢false (sym (c.in_default.ensures.succeeds none)) in
-    serves_same refl c.if-is_empty.ensures.ordered ((λ none. some (ap length none)), (λ none. failed (c.len.ensures ∙ c.args.acts.ok.0 ∙ sym (length-map c.args.acts.items read.act) ∙ ap length none)), same_state _ _ refl) tt zero-le
+    serves_same refl c.if-is_empty.ensures.ordered (
+      (λ none. some (ap length none)),
+      (λ none. failed (c.len.ensures ∙ c.args.acts.ok.0 ∙ sym (length-map c.args.acts.items read.act) ∙ ap length none)),
+      same_state _ _ refl,
+    ) tt zero-le
 
 pub loop-act-init : goal.loop-act-init
 loop-act-init g c =
@@ -24,7 +29,7 @@ loop-act-init g c =
     record {
       split = sym gives.0;
       space = omega (arith, ap length c.in-Ok.ensures.items, gives.1, c.len.ensures, c.in-Ok.ensures.capacity);
-      held = rw c.in-Ok.ensures.items (IsHeld-begins (loaned c.unwrap-loan.result) c.unwrap-loan.result.lent.some);
+      held = rw c.in-Ok.ensures.items (IsHeld-begins (loaned c.unwrap-loan.result) c.unwrap-loan.result.on_loan.some);
       same_reference = refl;
     }
 
@@ -40,7 +45,8 @@ loop-act-preserved g c =
       split = before.split ∙ ap (λ xs. yielded ++ xs) steps.0 ∙ sym (append_assoc yielded (act ∷ []) (into_iter_items c.next.new.self));
       space = omega (arith, ap length c.push_reserved.ensures.items, length-append seen (shown ∷ []), c.push_reserved.ensures.capacity, steps.1, before.space);
       held = rw (c.push_reserved.ensures.items, map-append read.act yielded (act ∷ []), map-append read.sight seen (shown ∷ [])) (elim c.match-act.branch [
-        | in-Write w ↦ rw (w.in-Write.is, w.push_reserved-is, w.replace.ensures.value, w.loan-is) (IsHeld-write before.held _ w.in-Write.item w.deref_mut.result.now w.deref_mut.ensures.first (ap (slice_set (loaned c.loop-act.loan).items 0) w.replace.ensures.after) refl)
+        | in-Write w ↦ rw (w.in-Write.is, w.push_reserved-is, w.replace.ensures.value, w.loan-is)
+            (IsHeld-write before.held _ w.in-Write.item w.deref_mut.result.now w.deref_mut.ensures.first (ap (slice_set (loaned c.loop-act.loan).items 0) w.replace.ensures.after) refl)
         | in-Refresh w ↦ let h = w.refresh.ensures in rw (w.in-Refresh.is, w.push_reserved-is, w.loan-is) (IsHeld-refresh before.held _ w.refresh.result h.moved h.bag h.greatest h.unmoved h.counted)
       ]);
       same_reference = elim c.match-act.branch [

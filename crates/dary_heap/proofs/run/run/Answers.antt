@@ -1,4 +1,5 @@
-use Rattle.dary_heap.proofs.Common.{◌≡◌, [], ◌∷◌, ◌++◌, length, map, All, Contains, sym, ap, ◌∙◌, subst, arith, inl, inr, append_assoc, append-nil, length-append, map-append, nil_from_length, Contains-append_left, Contains-append_right, Contains-append_cases, into_iter_items, IsCallableOn, items_in, predicates_in}
+use Rattle.dary_heap.proofs.Common.{◌≡◌, [], ◌∷◌, ◌++◌, length, map, All, Contains, sym, ap, ◌∙◌, subst, arith, inl, inr, append_assoc, append-nil, length-append, map-append, nil_from_length}
+use Rattle.dary_heap.proofs.Common.{Contains-append_left, Contains-append_right, Contains-append_cases, into_iter_items, IsCallableOn, items_in, predicates_in}
 use Rattle.dary_heap.specs.Reading as read
 use Rattle.dary_heap.proofs.run.Runs.{callable_one, items_of_one, Runs-begins, Runs-more}
 use Rattle.dary_heap.proofs.Fronts.{ordered_state}
@@ -20,8 +21,18 @@ serve-requires g c =
     let steps = c.in-Some.ensures.steps in
     let all = c.args.commands.items in
     let is : all ≡ c.loop-command.yielded ++ (c.in-Some.command ∷ into_iter_items c.next.new.self) = c.loop-command.invariant.split ∙ ap (λ xs. c.loop-command.yielded ++ xs) steps.0 in
-    let seen = ap (map read.command) is ∙ map-append read.command c.loop-command.yielded (c.in-Some.command ∷ into_iter_items c.next.new.self) in
-    (assumption, (assumption, (assumption, callable_one g.P.FnMut (c.args.heap.now.items ++ items_in (read.commands all)) c.loop-command.heap.items (read.commands c.loop-command.yielded) (read.command c.in-Some.command) (read.commands (into_iter_items c.next.new.self)) c.loop-command.invariant.among (subst (λ cs. All (IsCallableOn g.P.FnMut (c.args.heap.now.items ++ items_in (read.commands all))) (predicates_in cs)) seen c.requires))))
+    let seen = ap (map read.command) is ∙ map-append read.command c.loop-command.yielded (c.in-Some.command ∷ into_iter_items c.next.new.self) in (
+      assumption,
+      (
+        assumption,
+        (
+          assumption,
+          callable_one g.P.FnMut (c.args.heap.now.items ++ items_in (read.commands all)) c.loop-command.heap.items (read.commands c.loop-command.yielded)
+              (read.command c.in-Some.command) (read.commands (into_iter_items c.next.new.self)) c.loop-command.invariant.among
+              (subst (λ cs. All (IsCallableOn g.P.FnMut (c.args.heap.now.items ++ items_in (read.commands all))) (predicates_in cs)) seen c.requires),
+        ),
+      ),
+    )
 
 pub loop-command-preserved : goal.loop-command-preserved
 loop-command-preserved g c =
@@ -40,7 +51,8 @@ loop-command-preserved g c =
       runs = rw (c.push_reserved.ensures.items, map-append read.command yielded (command ∷ []), map-append read.reply replies (c.serve.result ∷ [])) (Runs-more before.runs c.serve.ensures);
       among = λ x in'. elim (Contains-append_cases c.loop-command.heap.items _ x (c.serve.ensures.among x in')) [
         | inl held ↦ before.among x held
-        | inr brought ↦ Contains-append_right c.args.heap.now.items _ x (subst (λ cs. Contains (items_in cs) x) (sym seen) (items_of_one (read.commands yielded) (read.command command) (read.commands rest) x brought))
+        | inr brought ↦ Contains-append_right c.args.heap.now.items _ x
+            (subst (λ cs. Contains (items_in cs) x) (sym seen) (items_of_one (read.commands yielded) (read.command command) (read.commands rest) x brought))
       ];
       ordered = c.serve.ensures.ordered;
     }

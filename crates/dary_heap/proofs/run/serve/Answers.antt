@@ -21,7 +21,8 @@ retain-requires g c =
 pub returns-in-PopIf : goal.returns-in-PopIf
 returns-in-PopIf g c =
     let e = c.pop_if.ensures in
-    rw c.in-PopIf.is (pops_where g.P.FnMut g.met.P.FnMut.1.post_iff g.met.T.Ord.total c.args.heap.now c.pop_if.new.self c.in-PopIf.predicate c.pop_if.result e.asked e.greatest e.bag e.ordered e.counted e.capacity e.unchanged)
+    rw c.in-PopIf.is (pops_where g.P.FnMut g.met.P.FnMut.1.post_iff g.met.T.Ord.total c.args.heap.now c.pop_if.new.self c.in-PopIf.predicate c.pop_if.result e.asked e.greatest e.bag e.ordered
+    e.counted e.capacity e.unchanged)
 
 pub returns-in-Ask : goal.returns-in-Ask
 returns-in-Ask g c =

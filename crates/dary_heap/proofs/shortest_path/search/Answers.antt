@@ -1,6 +1,8 @@
 use Rattle.dary_heap.proofs.{[], ◌∙◌, length, arith, length_permutation, subst, err_from_is_err_and, AreExaminedOnce, lit<, has_none}
+use Rattle.dary_heap.proofs.shortest_path.Apart.{no_cheaper}
 use Rattle.dary_heap.proofs.shortest_path.Examining.{charged_ends, none_examined, once_few, IsCharged, charged_begins, charged_pop, charged_push, once_begins, once_more, once_part, once_skips}
-use Rattle.dary_heap.proofs.shortest_path.Searching.{IsSearch, taken, current, row_read, found_least, found_uncritical, none_reached, none_uncritical, too_large, after_skip, after_examining, search_begins}
+use Rattle.dary_heap.proofs.shortest_path.Searching.{IsSearch, taken, current, row_read, found_least, found_uncritical, none_reached, none_uncritical, too_large, after_skip, after_examining}
+use Rattle.dary_heap.proofs.shortest_path.Searching.{search_begins}
 use Rattle.dary_heap.proofs.shortest_path.search.Goals.{In_default-pop, In_err-relax}
 use Rattle.dary_heap.proofs.shortest_path.search.Goals as goal
 
@@ -17,10 +19,10 @@ loop-cost-init c =
     }
 
 pub returns-then-position-goal-clause-least : goal.returns-then-position-goal-clause-least
-returns-then-position-goal-clause-least c = found_least c.loop-cost.invariant.search c.in-Some.ensures.bag c.in-Some.ensures.greatest c.if-position-goal.true
+returns-then-position-goal-clause-least c = found_least c.loop-cost.invariant.search c.in-Some.ensures.bag (no_cheaper _ _ c.in-Some.ensures.greatest) c.if-position-goal.true
 
 pub returns-then-position-goal-clause-uncritical : goal.returns-then-position-goal-clause-uncritical
-returns-then-position-goal-clause-uncritical c = found_uncritical c.loop-cost.invariant.search c.in-Some.ensures.bag c.in-Some.ensures.greatest c.if-position-goal.true
+returns-then-position-goal-clause-uncritical c = found_uncritical c.loop-cost.invariant.search c.in-Some.ensures.bag (no_cheaper _ _ c.in-Some.ensures.greatest) c.if-position-goal.true
 
 pub index-requires : goal.index-requires
 index-requires c = rw c.loop-cost.found.ok.0 (taken c.loop-cost.invariant.search c.in-Some.ensures.bag).within
@@ -44,7 +46,7 @@ loop-cost-preserved c =
     let row_is = row_read before.search pop.bag c.index-in-Some.result.now c.index-in-Some.ensures in
     record {
       search = after_examining before.search pop.bag c.if-position-goal.false same _ row_is relaxed.ok c.requires.graph;
-      once = once_more before.once pop.bag same _ row_is pop.greatest relaxed.ok relaxed.all;
+      once = once_more before.once pop.bag same _ row_is (no_cheaper _ _ pop.greatest) relaxed.ok relaxed.all;
       pushed = omega (arith, before.pushed, relaxed.pushed);
       charged = charged_push (charged_pop before.charged pop.bag pop.counted) relaxed.once;
     }
@@ -56,7 +58,7 @@ returns-in_err-relax-clause-too_large c =
     let same = current before.search pop.bag c.index.result.now c.index.ensures c.if-cost-index.false in
     let row_is = row_read before.search pop.bag c.index-in-Some.result.now c.index-in-Some.ensures in
     let failed = err_from_is_err_and c.from_residual.result c.from_residual.ensures.1 in
-    rw (failed.1, failed.2) (λ is. too_large before.search pop.bag c.if-position-goal.false same _ row_is pop.greatest (c.in_err-relax.ensures.too_large is))
+    rw (failed.1, failed.2) (λ is. too_large before.search pop.bag c.if-position-goal.false same _ row_is (no_cheaper _ _ pop.greatest) (c.in_err-relax.ensures.too_large is))
 
 -- no state waits where the loop ends
 ended : (c : In_default-pop) → IsSearch 18446744073709551615 c.args.adj_list.now.items c.args.start c.args.goal c.loop-cost.found.items []
@@ -75,7 +77,9 @@ stopped : (c : In_err-relax) → AreExaminedOnce c.args.adj_list.now.items c.rel
 stopped c =
     let before = c.loop-cost.invariant in
     let bag = c.in-Some.ensures.bag in
-    once_part before.once bag (current before.search bag c.index.result.now c.index.ensures c.if-cost-index.false) _ (row_read before.search bag c.index-in-Some.result.now c.index-in-Some.ensures) c.in_err-relax.ensures.once
+    let so_far = c.in_err-relax.ensures.once in
+    once_part before.once bag (current before.search bag c.index.result.now c.index.ensures c.if-cost-index.false) _
+    (row_read before.search bag c.index-in-Some.result.now c.index-in-Some.ensures) so_far.these so_far.others so_far.first so_far.examined
 
 -- what the pushes and pops cost until then
 charged : (c : In_err-relax) → IsCharged c.args.heap.now.comparisons c.relax.new.heap (length c.relax.new.work.examined)

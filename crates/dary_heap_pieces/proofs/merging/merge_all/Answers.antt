@@ -4,7 +4,8 @@ use Rattle.dary_heap_pieces.proofs.Steps.{IsFirst-popped, IsOffered-popped, Lead
 use Rattle.dary_heap_pieces.proofs.merging.merge_all.Goals as goal
 
 pub merge_candidate-requires-clause-offered : goal.merge_candidate-requires-clause-offered
-merge_candidate-requires-clause-offered c = IsOffered-popped (table_of c.args.merges.now) c.loop-rank.links c.loop-rank.candidates.items (c.in-Some.field-0 ∷ c.pop.new.self.items) c.in-Some.ensures.bag c.loop-rank.invariant.offered
+merge_candidate-requires-clause-offered c =
+    IsOffered-popped (table_of c.args.merges.now) c.loop-rank.links c.loop-rank.candidates.items (c.in-Some.field-0 ∷ c.pop.new.self.items) c.in-Some.ensures.bag c.loop-rank.invariant.offered
 
 pub merge_candidate-requires-clause-first : goal.merge_candidate-requires-clause-first
 merge_candidate-requires-clause-first c = IsFirst-popped c.loop-rank.candidates.items c.pop.new.self.items c.in-Some.field-0.0.0 c.in-Some.field-0.0.1 c.in-Some.ensures.greatest c.in-Some.ensures.bag
@@ -13,17 +14,21 @@ pub loop-rank-preserved : goal.loop-rank-preserved
 loop-rank-preserved c =
     let before = c.loop-rank.invariant in
     let tried = c.merge_candidate.ensures in
-    let one : length c.pop.new.self.items + 1 ≡ length c.loop-rank.candidates.items = omega (arith, length_permutation c.loop-rank.candidates.items (c.in-Some.field-0 ∷ c.pop.new.self.items) c.in-Some.ensures.bag) in
+    let one : length c.pop.new.self.items + 1 ≡ length c.loop-rank.candidates.items =
+    omega (arith, length_permutation c.loop-rank.candidates.items (c.in-Some.field-0 ∷ c.pop.new.self.items) c.in-Some.ensures.bag) in
     record {
       linked = tried.linked;
-      merged = LeadsTo-then (table_of c.args.merges.now) before.merged.0 tried.merged.0 (word_of c.args.links.now) (word_of c.loop-rank.links) (word_of c.merge_candidate.new.links) before.merged.1 tried.merged.1;
+      merged = LeadsTo-then (table_of c.args.merges.now) before.merged.0 tried.merged.0 (word_of c.args.links.now) (word_of c.loop-rank.links)
+          (word_of c.merge_candidate.new.links) before.merged.1 tried.merged.1;
       offered = tried.offered;
       left = λ some. tried.left (before.left some);
       shorter = omega (arith, before.shorter, tried.shorter);
       fewer = omega (arith, one, before.fewer, tried.fewer);
       room = omega (arith, one, before.room, tried.one_more);
       capacity = tried.capacity ∙ c.in-Some.ensures.capacity ∙ before.capacity;
-      counted = turn_counted (length c.args.candidates.now.items) (length (word_of c.args.links.now)) (length c.loop-rank.candidates.items) (length c.pop.new.self.items) (length c.merge_candidate.new.candidates.items) (length (word_of c.loop-rank.links)) (length (word_of c.merge_candidate.new.links)) one before.room before.shorter tried.shorter before.fewer tried.fewer before.counted c.in-Some.ensures.counted tried.counted;
+      counted = turn_counted (length c.args.candidates.now.items) (length (word_of c.args.links.now)) (length c.loop-rank.candidates.items) (length c.pop.new.self.items)
+          (length c.merge_candidate.new.candidates.items) (length (word_of c.loop-rank.links))
+          (length (word_of c.merge_candidate.new.links)) one before.room before.shorter tried.shorter before.fewer tried.fewer before.counted c.in-Some.ensures.counted tried.counted;
     }
 
 pub returns-clause-merged : goal.returns-clause-merged
@@ -41,4 +46,5 @@ returns-clause-counted c =
     let before = c.loop-rank.invariant in
     let still : c.pop.new.self.comparisons ≡ c.loop-rank.candidates.comparisons = ap (λ s. s.comparisons) c.in_default.ensures.unchanged in
     subst (λ n. RisesWithin c.args.candidates.now.comparisons n (merging_bound (length c.args.candidates.now.items) (length (word_of c.args.links.now)))) (sym still)
-    (all_counted (length c.args.candidates.now.items) (length (word_of c.args.links.now)) (length c.loop-rank.candidates.items) (length (word_of c.loop-rank.links)) before.left before.shorter before.counted)
+    (all_counted (length c.args.candidates.now.items) (length (word_of c.args.links.now)) (length c.loop-rank.candidates.items)
+    (length (word_of c.loop-rank.links)) before.left before.shorter before.counted)

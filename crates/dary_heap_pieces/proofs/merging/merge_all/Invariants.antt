@@ -12,7 +12,10 @@ invariant-loop-rank l = record {
   fewer : length l.candidates.items + 2 * length (word_of l.links) ≤ length l.initial.candidates.items + 2 * length (word_of l.initial.links);
   room : length l.candidates.items + length (word_of l.links) ≤ length l.initial.candidates.items + length (word_of l.initial.links);
   capacity : l.candidates.capacity ≡ l.initial.candidates.capacity;
-  counted : RisesWithin l.initial.candidates.comparisons l.candidates.comparisons ((length l.initial.candidates.items + 2 * length (word_of l.initial.links) - (length l.candidates.items + 2 * length (word_of l.links))) * pop_bound 8 (length l.initial.candidates.items + length (word_of l.initial.links)) + 2 * (length (word_of l.initial.links) - length (word_of l.links)) * push_bound 8 (length l.initial.candidates.items + length (word_of l.initial.links)));
+  counted : RisesWithin l.initial.candidates.comparisons l.candidates.comparisons
+      ((length l.initial.candidates.items + 2 * length (word_of l.initial.links) - (length l.candidates.items + 2 * length (word_of l.links))) * pop_bound 8
+      (length l.initial.candidates.items + length (word_of l.initial.links)) + 2 * (length (word_of l.initial.links) - length (word_of l.links)) * push_bound 8
+      (length l.initial.candidates.items + length (word_of l.initial.links)));
 }
 
 abbrev pub decreases-loop-rank : goal.decreases-loop-rank

@@ -18,8 +18,10 @@ loop-place-preserved c =
       within = omega (arith, before.within, c.loop-place-test.true);
       len = omega (arith, before.len, offer.len, c.loop-place.auto.place);
       capacity = offer.capacity ∙ before.capacity;
-      counted = offered_counted (place - 1) (place + 1 - 1) (length c.args.links.now) (length c.loop-place.candidates.items) (omega (arith, c.loop-place.auto.place)) (omega (arith, before.len, before.within, c.loop-place-test.true)) before.counted offer.counted;
+      counted = offered_counted (place - 1) (place + 1 - 1) (length c.args.links.now) (length c.loop-place.candidates.items) (omega (arith, c.loop-place.auto.place))
+          (omega (arith, before.len, before.within, c.loop-place-test.true)) before.counted offer.counted;
     }
 
 pub returns-clause-offered : goal.returns-clause-offered
-returns-clause-offered c = record { each = λ p m is. c.loop-place.invariant.offered p (omega (arith, right_within (table_of c.args.merges.now) c.args.links.now c.requires.linked p m is, c.loop-place-test.false)) m is }
+returns-clause-offered c =
+    record { each = λ p m is. c.loop-place.invariant.offered p (omega (arith, right_within (table_of c.args.merges.now) c.args.links.now c.requires.linked p m is, c.loop-place-test.false)) m is }

@@ -1,4 +1,5 @@
-use Rattle.dary_heap_uses.proofs.Common.{rules, ◌≡◌, List, ◌∷◌, sym, ap, ◌∙◌, subst, IsGreatest, Contents, loaned, cmp_from_lt, cmp_from_not_lt, not_greater-less, IsGreatest-overtaken, IsGreatest-stays, IsSameBag-written}
+use Rattle.dary_heap_uses.proofs.Common.{rules, ◌≡◌, List, ◌∷◌, sym, ap, ◌∙◌, subst, IsGreatest, Contents, loaned, cmp_from_lt, cmp_from_not_lt, not_greater-less, IsGreatest-overtaken}
+use Rattle.dary_heap_uses.proofs.Common.{IsGreatest-stays, IsSameBag-written}
 use Rattle.dary_heap_uses.proofs.calling.push_pop.Goals as goal
 
 pub returns-then-lt-clause-bag : goal.returns-then-lt-clause-bag

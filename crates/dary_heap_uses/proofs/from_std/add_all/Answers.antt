@@ -1,4 +1,5 @@
-use Rattle.dary_heap_uses.proofs.Common.{◌++◌, length, OnErr, OnOk, IsOk, Result, Ok, Err, arith, refl, subst, sym, ◌∙◌, at_most_from_yields_List, fact_from_extend, YieldsList-from_vec, map-id, IsSameBag, extend_fits}
+use Rattle.dary_heap_uses.proofs.Common.{◌++◌, length, OnErr, OnOk, IsOk, Result, Ok, Err, arith, refl, subst, sym, ◌∙◌, at_most_from_yields_List, fact_from_extend, YieldsList-from_vec, map-id}
+use Rattle.dary_heap_uses.proofs.Common.{IsSameBag, extend_fits}
 use Rattle.dary_heap_uses.proofs.from_std.add_all.Goals as goal
 
 -- what never fails succeeds

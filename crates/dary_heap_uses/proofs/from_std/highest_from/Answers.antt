@@ -1,4 +1,5 @@
-use Rattle.dary_heap_uses.proofs.Common.{◌≡◌, ◌<◌, ◌≤◌, ◌∷◌, ℕ, List, Option, None, Some, All, IfSome, IfNone, arith, inl, inr, refl, rules, subst, sym, All-nil, All-weaker, le_from_greatest, nat_cmp, IsGreatest, IsSameBag, front, front_cases, pop_if_no, upper_bound, upper_bound_left}
+use Rattle.dary_heap_uses.proofs.Common.{◌≡◌, ◌<◌, ◌≤◌, ◌∷◌, ℕ, List, Option, None, Some, All, IfSome, IfNone, arith, inl, inr, refl, rules, subst, sym, All-nil, All-weaker, le_from_greatest}
+use Rattle.dary_heap_uses.proofs.Common.{nat_cmp, IsGreatest, IsSameBag, front, front_cases, pop_if_no, upper_bound, upper_bound_left}
 use Rattle.std.proofs.lemmas.Cmp.{nat_cmp_total}
 use Rattle.std.proofs.lemmas.Option.{IfSome_then}
 use Rattle.dary_heap_uses.proofs.from_std.highest_from.Goals as goal
@@ -8,10 +9,13 @@ below old new None greatest bag = tt
 below old new (Some x) greatest bag = le_from_greatest x new (upper_bound_left nat_cmp_total old new x greatest bag)
 
 -- if the first price is below the bound, so are all
-none : (bound : ℕ) (old : List ℕ) (r : Option ℕ) → (r ≡ None → (price : ℕ) → front old ≡ Some price → price < bound) → ((price : ℕ) → front old ≡ Some price → IsGreatest nat_cmp old price) → IfNone r (All (λ price. price < bound) old)
+none : (bound : ℕ) (old : List ℕ) (r : Option ℕ) → (r ≡ None → (price : ℕ) → front old ≡ Some price → price < bound) → ((price : ℕ) → front old ≡ Some price → IsGreatest nat_cmp old price) →
+    IfNone r (All (λ price. price < bound) old)
 none bound old None asked shown = elim (front_cases old) [
   | inl empty ↦ subst (All (λ price. price < bound)) (sym empty) (All-nil (λ price. price < bound))
-  | inr some ↦ (let below = asked refl some.0 some.1 in All-weaker (λ price. price ≤ some.0) (λ price. price < bound) (λ price under. omega (arith, below, under)) old (le_from_greatest some.0 old (upper_bound nat_cmp_total old some.0 (shown some.0 some.1))))
+  | inr some ↦ (let below = asked refl some.0 some.1 in
+      All-weaker (λ price. price ≤ some.0) (λ price. price < bound) (λ price under. omega (arith, below, under)) old
+      (le_from_greatest some.0 old (upper_bound nat_cmp_total old some.0 (shown some.0 some.1))))
 ]
 none bound old (Some price) asked shown = tt
 

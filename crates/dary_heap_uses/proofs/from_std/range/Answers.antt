@@ -1,4 +1,5 @@
-use Rattle.dary_heap_uses.proofs.Common.{◌≡◌, ℕ, ◌-◌, ◌<◌, ◌≤◌, List, length, get_or, ap, arith, sym, ◌∙◌, get_or_default, All-permutation, Contains-permutation, IsNonDecreasingBy-from_sort, IsPermutation-sym, IsPermutation-trans, IsNonDecreasing, IsSameBag}
+use Rattle.dary_heap_uses.proofs.Common.{◌≡◌, ℕ, ◌-◌, ◌<◌, ◌≤◌, List, length, get_or, ap, arith, sym, ◌∙◌, get_or_default, All-permutation, Contains-permutation, IsNonDecreasingBy-from_sort}
+use Rattle.dary_heap_uses.proofs.Common.{IsPermutation-sym, IsPermutation-trans, IsNonDecreasing, IsSameBag}
 use Rattle.dary_heap_uses.specs.FromStd.{IsRange}
 use Rattle.dary_heap_uses.proofs.from_std.range.Goals as goal
 

@@ -1,4 +1,5 @@
-use Rattle.dary_heap_uses.proofs.Common.{◌≡◌, ◌≤◌, ◌<◌, ◌∷◌, length, length-map, length_permutation, refl, arith, pop_bound, on_ok_of, depth-later, reversed_came, reversed_went, reversed_least, values}
+use Rattle.dary_heap_uses.proofs.Common.{◌≡◌, ◌≤◌, ◌<◌, ◌∷◌, length, length-map, length_permutation, refl, arith, pop_bound, on_ok_of, depth-later, reversed_came, reversed_went, reversed_least}
+use Rattle.dary_heap_uses.proofs.Common.{values}
 use Rattle.dary_heap_uses.proofs.Keeping.{within_more, came_in, least_out, sunk_within}
 use Rattle.dary_heap_uses.proofs.greatest.offer.Goals as goal
 

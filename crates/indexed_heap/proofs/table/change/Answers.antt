@@ -1,7 +1,13 @@
-use Rattle.dary_heap.proofs.Common.{◌≡◌, ℕ, get_or, sym, ap, ◌∙◌, slice_get-get_or}
+use Rattle.dary_heap.proofs.Common.{◌≡◌, ℕ, get_or, refl, sym, ap, ◌∙◌, slice_get-get_or}
 use Rattle.dary_heap.proofs.Callers.{overwritten}
 use Rattle.indexed_heap.proofs.Changing.{item_instead, put_there, slot_is}
+use Rattle.indexed_heap.proofs.Raising.{same_key_but_at}
 use Rattle.indexed_heap.proofs.table.change.Goals as goal
+
+pub fix-requires-clause-right : goal.fix-requires-clause-right
+fix-requires-clause-right g c =
+    let xs = c.args.slots.now in let at = c.args.at in
+    same_key_but_at xs c.args.places.now at (get_or xs at c.index-slots-at.result) _ c.requires.there (slice_get-get_or xs at c.index-slots-at.result c.requires.there) refl c.requires.right
 
 pub returns-clause-bag : goal.returns-clause-bag
 returns-clause-bag g c = λ key h.

@@ -2,7 +2,7 @@ use Rattle.dary_heap.proofs.Common.{◌≡◌, ◌≢◌, ℕ, ◌<◌, get_or, 
 use Rattle.dary_heap.proofs.Order.{not_greater, is_greater, strictly_less}
 use Rattle.dary_heap.proofs.sift.Parts.{whole_of}
 use Rattle.indexed_heap.proofs.Changing.{item_instead, put_there, slot_is}
-use Rattle.indexed_heap.proofs.Raising.{lifted, same_key}
+use Rattle.indexed_heap.proofs.Raising.{lifted, same_key_but_at}
 use Rattle.indexed_heap.proofs.table.lift.Goals.{After-at_most}
 use Rattle.indexed_heap.proofs.table.lift.Given.{Over}
 use Rattle.indexed_heap.proofs.table.lift.Goals as goal
@@ -12,8 +12,10 @@ there_is : (g : Over) (c : After-at_most g) → c.requires.there.entry ≡ (c.ar
 there_is g c = slot_is c.requires.there.entry c.args.key c.requires.there.entry.1 c.requires.there.has refl
 
 -- what was answered of it
-answered : (g : Over) (c : After-at_most g) → c.at_most.result ≡ is_le (g.J.Judge.order (c.args.key, c.args.item) (get_or c.args.slots.now c.args.at c.index-slots-at.result)) → c.at_most.result ≡ is_le (g.J.Judge.order (c.args.key, c.args.item) c.requires.there.entry)
-answered g c answer = answer ∙ ap (λ e. is_le (g.J.Judge.order (c.args.key, c.args.item) e)) (get_or_from_slice_get c.args.slots.now c.args.at c.requires.there.entry c.index-slots-at.result c.requires.there.there)
+answered : (g : Over) (c : After-at_most g) → c.at_most.result ≡ is_le (g.J.Judge.order (c.args.key, c.args.item) (get_or c.args.slots.now c.args.at c.index-slots-at.result)) →
+    c.at_most.result ≡ is_le (g.J.Judge.order (c.args.key, c.args.item) c.requires.there.entry)
+answered g c answer =
+    answer ∙ ap (λ e. is_le (g.J.Judge.order (c.args.key, c.args.item) e)) (get_or_from_slice_get c.args.slots.now c.args.at c.requires.there.entry c.index-slots-at.result c.requires.there.there)
 
 pub returns-then-at_most-clause-reached : goal.returns-then-at_most-clause-reached
 returns-then-at_most-clause-reached g c =
@@ -31,8 +33,9 @@ returns-then-at_most-clause-reached g c =
       refl,
     )
 
-pub sift_up-requires-clause-right : goal.sift_up-requires-clause-right
-sift_up-requires-clause-right g c = let there = c.requires.there in same_key c.args.slots.now c.args.places.now c.args.at there.entry _ c.requires.inside there.there (sym there.has) c.requires.right
+pub sift_up-requires : goal.sift_up-requires
+sift_up-requires g c = let there = c.requires.there in
+    record { right = same_key_but_at c.args.slots.now c.args.places.now c.args.at there.entry _ c.requires.inside there.there (sym there.has) c.requires.right }
 
 pub returns-clause-raised : goal.returns-clause-raised
 returns-clause-raised g c =
@@ -40,7 +43,8 @@ returns-clause-raised g c =
     let s = (goal.at.returns-clause-raised g c).After-at_most in
     let order = g.J.Judge.order in (
       there.entry.1,
-      item_instead c.args.slots.now c.sift_up.new.slots c.args.at c.args.key there.entry (c.args.key, c.args.item) there.entry.1 c.args.item there.there there.has refl refl refl c.sift_up.ensures.sifted.permutation,
+      item_instead c.args.slots.now c.sift_up.new.slots c.args.at c.args.key there.entry
+          (c.args.key, c.args.item) there.entry.1 c.args.item there.there there.has refl refl refl c.sift_up.ensures.sifted.permutation,
       ap (order (c.args.key, c.args.item)) (sym (there_is g s)) ∙ is_greater _ (sym (answered g s c.at_most.ensures.answer) ∙ c.if-at_most.false),
       put_there c.args.slots.now c.sift_up.new.slots c.args.at (c.args.key, c.args.item) c.requires.inside c.sift_up.ensures.sifted.permutation,
     )
@@ -56,4 +60,5 @@ returns-clause-ordered g c = λ h.
     let under : order there.entry new ≢ Greater = λ e. (let no = sym less ∙ e in cc) in
     let way = c.sift_up.ensures.sifted in
     let inside : at < length (set xs at new) = omega (arith, c.requires.inside, length-set xs at new) in
-    whole_of g.row.D (set xs at new) c.sift_up.new.slots way.permutation (way.ordered (length (set xs at new)) inside (lifted g.met.J.Judge.total g.row.D at xs there.entry new c.requires.inside there.there under h (length (set xs at new))))
+    whole_of g.row.D (set xs at new) c.sift_up.new.slots way.permutation
+    (way.ordered (length (set xs at new)) inside (lifted g.met.J.Judge.total g.row.D at xs there.entry new c.requires.inside there.there under h (length (set xs at new))))

@@ -1,7 +1,6 @@
 use Rattle.dary_heap.proofs.Common.{◌≡◌, ℕ, ◌<◌, List, fix_bound, length, ap, arith, length_permutation, slice_get_within}
 use Rattle.dary_heap.proofs.sift.Written.{written_back}
 use Rattle.indexed_heap.proofs.Changing.{gets_new}
-use Rattle.indexed_heap.proofs.Bounding.{within_sink}
 use Rattle.indexed_heap.proofs.Placing.{one_place}
 use Rattle.indexed_heap.proofs.table.set.Goals.{After-change}
 use Rattle.indexed_heap.proofs.table.set.Given.{Over}
@@ -16,23 +15,36 @@ all g c =
 pub returns-clause-gets : goal.returns-clause-gets
 returns-clause-gets g c =
     let bag = c.change.ensures.bag c.args.key (rw c.as_mut_slice.ensures.value (rw c.as_slice.ensures.value at c.in-Some.ensures.found)) in
-    rw (written_back _ c.change.new.slots _ (all g (goal.at.returns-clause-gets g c).After-change)) (record { bag = rw c.as_mut_slice.ensures.value at bag; absent = tt; has = c.change.ensures.has c.args.key (rw c.as_mut_slice.ensures.value (rw c.as_slice.ensures.value at c.in-Some.ensures.found)) })
+    rw (written_back _ c.change.new.slots _ (all g (goal.at.returns-clause-gets g c).After-change))
+    (record {
+      bag = rw c.as_mut_slice.ensures.value at bag;
+      absent = tt;
+      has =
+          c.change.ensures.has c.args.key (rw c.as_mut_slice.ensures.value (rw c.as_slice.ensures.value at c.in-Some.ensures.found));
+    })
 
 pub returns-clause-ordered : goal.returns-clause-ordered
 returns-clause-ordered g c = λ h. rw (written_back _ c.change.new.slots _ (all g (goal.at.returns-clause-ordered g c).After-change)) (c.change.ensures.ordered (rw c.as_mut_slice.ensures.value h))
 
 pub returns-clause-counted : goal.returns-clause-counted
 returns-clause-counted g c =
-    let found = c.in-Some.ensures.found in
-    let inside : c.in-Some.at < length c.as_slice.result.now = slice_get_within c.as_slice.result.now c.in-Some.at found.entry found.there in
-    within_sink g.row.D c.in-Some.at _ _ (length c.as_mut_slice.result.now) (length c.args.slots.now.items) (ap length c.as_mut_slice.ensures.value) (omega (arith, ap length c.as_slice.ensures.value, ap length c.as_mut_slice.ensures.value)) c.change.ensures.counted
-
-pub returns-clause-fixed : goal.returns-clause-fixed
-returns-clause-fixed g c = λ at h.
+    let xs = c.args.slots.now.items in
     let found = rw c.as_slice.ensures.value at c.in-Some.ensures.found in
-    let same : c.in-Some.at ≡ at = one_place {slots = c.args.slots.now.items} {places = c.args.places.now.items} c.requires c.in-Some.at at c.args.key found h in
     let counted = c.change.ensures.counted in
-    record { rises = counted.rises; within = omega (arith, counted.within, ap (λ k. fix_bound g.row.D (length c.as_mut_slice.result.now) k) same, ap (λ (xs : List (ℕ × g.row.T.Denot)). fix_bound g.row.D (length xs) at) c.as_mut_slice.ensures.value) }
+    record {
+      new = λ absent. absurd (absent.none c.in-Some.at found.entry found.there found.has);
+      held = λ at h.
+          let same : c.in-Some.at ≡ at = one_place {slots = xs} {places = c.args.places.now.items} c.requires c.in-Some.at at c.args.key found h in
+          record {
+            rises = counted.rises;
+            within = omega (
+              arith,
+              counted.within,
+              ap (λ k. fix_bound g.row.D (length c.as_mut_slice.result.now) k) same,
+              ap (λ (ys : List (ℕ × g.row.T.Denot)). fix_bound g.row.D (length ys) at) c.as_mut_slice.ensures.value,
+            );
+          };
+    }
 
 pub change-requires-clause-there : goal.change-requires-clause-there
 change-requires-clause-there g c =
@@ -42,3 +54,8 @@ change-requires-clause-there g c =
 
 pub returns-in-Ok-clause-gets : goal.returns-in-Ok-clause-gets
 returns-in-Ok-clause-gets g c = gets_new c.args.key c.args.item c.args.slots.now.items c.add.new.slots.items c.in-Ok.ensures.bag (rw c.as_slice.ensures.value at c.in_default.ensures.none)
+
+pub returns-in-Ok-clause-counted : goal.returns-in-Ok-clause-counted
+returns-in-Ok-clause-counted g c =
+    let none = rw c.as_slice.ensures.value at c.in_default.ensures.none in
+    record { new = λ absent. c.in-Ok.ensures.counted; held = λ at h. absurd (none.none at h.entry h.there h.has) }

@@ -10,7 +10,8 @@ returns-clause-bag g c =
           let placed = rw (w.self-inside-is, w.other-inside-is) at c.take_in.ensures.bag in
           let swapped = rw (w.swap.ensures.x_after, w.swap.ensures.y_after) at placed in
           let bag = rw w.reserve.ensures.items at swapped in
-          IsPermutation-trans _ (c.args.other.now.items ++ c.args.self.now.items) _ (IsPermutation-append_comm c.args.self.now.items c.args.other.now.items) (rw (← c.self.view_is, ← c.other.view_is) bag)
+          IsPermutation-trans _ (c.args.other.now.items ++ c.args.self.now.items) _ (IsPermutation-append_comm c.args.self.now.items c.args.other.now.items)
+          (rw (← c.self.view_is, ← c.other.view_is) bag)
       | else-len+in-Ok-reserve w ↦
           let placed = rw (w.self-inside-is, w.other-inside-is) at c.take_in.ensures.bag in
           rw (← c.self.view_is, ← c.other.view_is) (rw w.reserve-else-len.ensures.items at placed)

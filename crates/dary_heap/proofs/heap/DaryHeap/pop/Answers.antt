@@ -12,5 +12,6 @@ returns-clause-variant g c = some_first _ _ (rw (← c.self.view_is) c.pop_order
 
 pub returns-clause-below_top : goal.returns-clause-below_top
 returns-clause-below_top g c =
-    let popped : IsPop g.J.Judge.order g.row.D c.args.self.now c.pop_ordered.result (contents_of c.pop_ordered.new.items (g.J.Judge.count c.pop_ordered.new.judge)) = rw (← c.self.view_is) c.pop_ordered.ensures in
+    let popped : IsPop g.J.Judge.order g.row.D c.args.self.now c.pop_ordered.result (contents_of c.pop_ordered.new.items (g.J.Judge.count c.pop_ordered.new.judge)) =
+    rw (← c.self.view_is) c.pop_ordered.ensures in
     popped_bound g.met.J.Judge.total _ _ c.pop_ordered.result popped.greatest popped.bag

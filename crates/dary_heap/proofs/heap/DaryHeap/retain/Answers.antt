@@ -47,7 +47,9 @@ returns-clause-retained g c =
           let nothing : length now - c.keep-start.result ≡ 0 = omega arith in
           let uncounted = rw nothing at c.mend_with.ensures.counted in
           same_contents _ _ (written_back _ zs _ (all g c) ∙ c.mend_with.ensures.unchanged last ∙ whole) c.keep-start.ensures.capacity (omega (arith, uncounted));
-      counted = rw (written_back _ zs _ (all g c)) (subst (λ m. RisesWithin (g.J.Judge.count c.self.inside.judge) (g.J.Judge.count c.mend_with.new.judge) (mend_bound g.row.D m (m - first_no k.0))) long (subst (λ m. RisesWithin (g.J.Judge.count c.self.inside.judge) (g.J.Judge.count c.mend_with.new.judge) (mend_bound g.row.D (length now) (length now - m))) k.5 c.mend_with.ensures.counted));
+      counted = rw (written_back _ zs _ (all g c)) (subst (λ m. RisesWithin (g.J.Judge.count c.self.inside.judge) (g.J.Judge.count c.mend_with.new.judge)
+          (mend_bound g.row.D m (m - first_no k.0))) long (subst (λ m. RisesWithin (g.J.Judge.count c.self.inside.judge) (g.J.Judge.count c.mend_with.new.judge)
+          (mend_bound g.row.D (length now) (length now - m))) k.5 c.mend_with.ensures.counted));
     }
 
 pub returns-clause-len : goal.returns-clause-len

@@ -1,4 +1,6 @@
-use Rattle.dary_heap.proofs.{◌≡◌, ◌≢◌, ℕ, ◌+◌, ◌<◌, ◌≤◌, [], ◌∷◌, ◌++◌, Bool, true, false, List, length, take, drop, Some, slice_get, nat_eq, refl, sym, ap, ◌∙◌, arith, length-append, slice_get_read, get_or_from_slice_get, CalledAt, ◌&&◌, bool_byte, TakesInTurn, swap, items_where_true, exchanges, add-one, le_refl, ne_eqb, take_all, take_more, first_no}
+use Rattle.dary_heap.proofs.{◌≡◌, ◌≢◌, ℕ, ◌+◌, ◌<◌, ◌≤◌, [], ◌∷◌, ◌++◌, Bool, true, false, List, length, take, drop, Some, slice_get, nat_eq, refl, sym, ap, ◌∙◌, arith, length-append}
+use Rattle.dary_heap.proofs.{slice_get_read, get_or_from_slice_get, CalledAt, ◌&&◌, bool_byte, TakesInTurn, swap, items_where_true, exchanges, add-one, le_refl, ne_eqb, take_all, take_more}
+use Rattle.dary_heap.proofs.{first_no}
 use Rattle.core.proofs.num.Orders.{Bool-small}
 use Rattle.std.proofs.Retain.{picked_push_false}
 use Rattle.std.proofs.lemmas.Bool.{eq-eqb}
@@ -9,17 +11,22 @@ use Rattle.dary_heap.proofs.heap.filter.keep.Given.{Over}
 use Rattle.dary_heap.proofs.heap.filter.keep.Goals as goal
 
 -- the items that are kept, with the next one or without
-front_more : {X : Type 0} (b : Bool) (bs : List Bool) (old xs ys : List X) (kept place : ℕ) (x : X) → kept ≤ place → place < length xs → slice_get xs place ≡ Some x → slice_get old (length bs) ≡ Some x → ys ≡ swap xs kept place → take kept xs ≡ items_where_true bs old → take (kept + bool_byte b) ys ≡ items_where_true (bs ++ b ∷ []) old
+front_more : {X : Type 0} (b : Bool) (bs : List Bool) (old xs ys : List X) (kept place : ℕ) (x : X) → kept ≤ place → place < length xs → slice_get xs place ≡ Some x →
+    slice_get old (length bs) ≡ Some x → ys ≡ swap xs kept place → take kept xs ≡ items_where_true bs old → take (kept + bool_byte b) ys ≡ items_where_true (bs ++ b ∷ []) old
 front_more true bs old xs ys kept place x few within there at is front = take-brought xs ys kept place x few within there is ∙ ap (λ l. l ++ x ∷ []) front ∙ sym (picked-yes bs old x at)
 front_more false bs old xs ys kept place x few within there at is front =
     let same : kept + bool_byte false ≡ kept = omega arith in
     ap (λ n. take n ys) same ∙ take-before xs ys kept place x few within is ∙ front ∙ sym (picked_push_false bs old)
 
-front_yes : {X : Type 0} (bs : List Bool) (old : List X) (start : ℕ) (x : X) → start < length old → length bs ≡ start → slice_get old start ≡ Some x → take start old ≡ items_where_true bs old → take (start + 1) old ≡ items_where_true (bs ++ true ∷ []) old
-front_yes bs old start x within so_far at front = take_more old start x within ∙ ap (λ z. take start old ++ z ∷ []) (get_or_from_slice_get old start x x at) ∙ ap (λ l. l ++ x ∷ []) front ∙ sym (picked-yes bs old x (ap (slice_get old) so_far ∙ at))
+front_yes : {X : Type 0} (bs : List Bool) (old : List X) (start : ℕ) (x : X) → start < length old → length bs ≡ start → slice_get old start ≡ Some x → take start old ≡ items_where_true bs old →
+    take (start + 1) old ≡ items_where_true (bs ++ true ∷ []) old
+front_yes bs old start x within so_far at front = take_more old start x within ∙ ap (λ z. take start old ++ z ∷ []) (get_or_from_slice_get old start x x at) ∙ ap (λ l. l ++ x ∷ []) front
+    ∙ sym (picked-yes bs old x (ap (slice_get old) so_far ∙ at))
 
 -- one answer more
-told_more : {X P : Type 0} (calls : P → X → Bool → P → Type 0) (old xs ys : List X) (f q r : P) (place kept start kept' start' : ℕ) (b : Bool) (x : X) (told : Told calls old xs f q place kept start) → slice_get old place ≡ Some x → calls q x b r → take kept' ys ≡ items_where_true (told.answers ++ b ∷ []) old → start' ≡ first_no told.answers + bool_byte (b && nat_eq (first_no told.answers) (length told.answers)) → Told calls old ys f r (place + 1) kept' start'
+told_more : {X P : Type 0} (calls : P → X → Bool → P → Type 0) (old xs ys : List X) (f q r : P) (place kept start kept' start' : ℕ) (b : Bool) (x : X)
+    (told : Told calls old xs f q place kept start) → slice_get old place ≡ Some x → calls q x b r → take kept' ys ≡ items_where_true (told.answers ++ b ∷ []) old →
+    start' ≡ first_no told.answers + bool_byte (b && nat_eq (first_no told.answers) (length told.answers)) → Told calls old ys f r (place + 1) kept' start'
 told_more calls old xs ys f q r place kept start kept' start' b x told here called front first = record {
   answers = told.answers ++ b ∷ [];
   so_far = omega (arith, length-append told.answers (b ∷ []), told.so_far);
@@ -38,7 +45,8 @@ loop-start-init g c = record { within = omega arith; callable = c.requires; told
 
 -- the item that is asked about
 asked_of : (g : Over) (c : After-index g) → slice_get c.args.items.now.items c.loop-start.start ≡ Some c.index.result.now
-asked_of g c = let old = c.args.items.now.items in slice_get_read old (length old) c.loop-start.start c.index.result.now refl (omega (arith, c.loop-start-test.true, c.len.ensures, c.args.items.now.ok.0)) c.index.ensures
+asked_of g c = let old = c.args.items.now.items in
+    slice_get_read old (length old) c.loop-start.start c.index.result.now refl (omega (arith, c.loop-start-test.true, c.len.ensures, c.args.items.now.ok.0)) c.index.ensures
 
 pub f-requires : goal.f-requires
 f-requires g c = (next_asked g.F.FnMut c.loop-start.f c.args.items.now.items c.loop-start.start c.index.result.now (asked_of g c) c.loop-start.invariant.callable).0 c.index.result refl
@@ -59,7 +67,8 @@ loop-start-preserved g c =
     record {
       within = omega (arith, c.loop-start-test.true, c.len.ensures);
       callable = rw add-one ((next_asked g.F.FnMut c.loop-start.f old start x here before.callable).1 true c.f.new.self called);
-      told = told_more (CalledAt g.F.FnMut) old old old c.args.f c.loop-start.f c.f.new.self start start start (start + 1) (start + 1) true x told here called (front_yes told.answers old start x within told.so_far here told.front)
+      told = told_more (CalledAt g.F.FnMut) old old old c.args.f c.loop-start.f c.f.new.self start start start (start + 1) (start + 1) true x told here called
+          (front_yes told.answers old start x within told.so_far here told.front)
           (omega (arith, told.first, ap bool_byte (eq-eqb (first_no told.answers) (length told.answers) (sym told.first ∙ sym told.so_far))));
     }
 
@@ -88,7 +97,8 @@ loop-place-init g c = elim c.loop-start-test.branch [
         later = omega arith;
         callable = rw add-one ((next_asked g.F.FnMut c.loop-start.f old start x here before.callable).1 false w.f.new.self called);
         rest = λ i low. refl;
-        told = told_more (CalledAt g.F.FnMut) old old old c.args.f c.loop-start.f w.f.new.self start start start start start false x told here called (told.front ∙ sym (picked_push_false told.answers old)) (omega (arith, told.first));
+        told = told_more (CalledAt g.F.FnMut) old old old c.args.f c.loop-start.f w.f.new.self start start start start start false x told here called
+            (told.front ∙ sym (picked_push_false told.answers old)) (omega (arith, told.first));
         capacity = refl;
       })
 ]
@@ -117,7 +127,8 @@ loop-place-preserved g c =
     let there : slice_get now place ≡ Some x = slice_get_read now (length now) place x refl within c.index-in-loop-place.ensures in
     let here : slice_get old place ≡ Some x = sym (before.rest place (le_refl place)) ∙ there in
     let called : CalledAt g.F.FnMut c.loop-place.f x answer c.f-stays.new.self = record { shown = c.index-in-loop-place.result; shows = refl; called = c.f-stays.ensures } in
-    let callable : TakesInTurn g.F.FnMut c.f-stays.new.self (drop (place + 1) old) = rw add-one ((next_asked g.F.FnMut c.loop-place.f old place x here before.callable).1 answer c.f-stays.new.self called) in
+    let callable : TakesInTurn g.F.FnMut c.f-stays.new.self (drop (place + 1) old) =
+    rw add-one ((next_asked g.F.FnMut c.loop-place.f old place x here before.callable).1 answer c.f-stays.new.self called) in
     let e = exchanges now c.swap.new.self.items kept place (omega (arith, within, before.few)) within c.swap.ensures.items in
     let told = before.told in
     let same : slice_get old (length told.answers) ≡ Some x = ap (slice_get old) told.so_far ∙ here in
@@ -127,12 +138,19 @@ loop-place-preserved g c =
       later = omega (arith, before.later);
       callable = callable;
       rest = λ i low. let u : i ≢ kept = omega (arith, low, before.few) in let v : i ≢ place = omega (arith, low) in e.others i u v ∙ before.rest i (omega (arith, low));
-      told = told_more (CalledAt g.F.FnMut) old now c.swap.new.self.items c.args.f c.loop-place.f c.f-stays.new.self place kept start (kept + bool_byte answer) start answer x told here called (front_more answer told.answers old now c.swap.new.self.items kept place x before.few within there same c.swap.ensures.items told.front)
+      told = told_more (CalledAt g.F.FnMut) old now c.swap.new.self.items c.args.f c.loop-place.f c.f-stays.new.self place kept start (kept + bool_byte answer) start answer x told here called
+          (front_more answer told.answers old now c.swap.new.self.items kept place x before.few within there same c.swap.ensures.items told.front)
           (told.first ∙ later_no answer (first_no told.answers) (length told.answers) (omega (arith, told.first, told.so_far, before.later)));
       capacity = c.swap.ensures.capacity ∙ before.capacity;
     }
 
 pub returns-clause-kept : goal.returns-clause-kept
 returns-clause-kept g c =
-    let told = c.loop-place.invariant.told in
-    (told.answers, c.loop-place.f, omega (arith, told.so_far, c.loop-place-test.false, c.loop-place.auto.place-end, c.len-place-end.ensures, c.args.items.now.ok.0), told.asked, c.truncate.ensures.items ∙ told.front, told.first)
+    let told = c.loop-place.invariant.told in (
+      told.answers,
+      c.loop-place.f,
+      omega (arith, told.so_far, c.loop-place-test.false, c.loop-place.auto.place-end, c.len-place-end.ensures, c.args.items.now.ok.0),
+      told.asked,
+      c.truncate.ensures.items ∙ told.front,
+      told.first,
+    )

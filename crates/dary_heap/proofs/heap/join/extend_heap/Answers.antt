@@ -22,8 +22,12 @@ ordered g c =
     c.mend_with.ensures.ordered (subst (IsHeapOrdered g.J.Judge.order g.row.D) (sym front) c.heap.invariant)
 
 -- what came in is taken into the heap
-taken : (g : _) (c : After-mend_with g) → IsExtended g.J.Judge.order g.row.D (record { items = c.heap.inside.items.items; capacity = vec_capacity c.heap.inside.items; comparisons = g.J.Judge.count c.heap.inside.judge }) (map g.X.Element.value c.push_all-outcome.ensures.came.0) (record { items = c.mend_with.new.items; capacity = vec_capacity c.push_all-outcome.new.items; comparisons = g.J.Judge.count c.mend_with.new.judge })
-taken g c = mended _ _ _ _ c.len-start.result (behind g c) (start g c) (sym c.mend_with.auto.items) c.mend_with.ensures.bag c.mend_with.ensures.unchanged (ordered g c) c.mend_with.ensures.counted c.push_all-outcome.ensures.capacity
+taken : (g : _) (c : After-mend_with g) → IsExtended g.J.Judge.order g.row.D
+    (record { items = c.heap.inside.items.items; capacity = vec_capacity c.heap.inside.items; comparisons = g.J.Judge.count c.heap.inside.judge })
+    (map g.X.Element.value c.push_all-outcome.ensures.came.0)
+    (record { items = c.mend_with.new.items; capacity = vec_capacity c.push_all-outcome.new.items; comparisons = g.J.Judge.count c.mend_with.new.judge })
+taken g c = mended _ _ _ _ c.len-start.result (behind g c) (start g c) (sym c.mend_with.auto.items) c.mend_with.ensures.bag c.mend_with.ensures.unchanged
+    (ordered g c) c.mend_with.ensures.counted c.push_all-outcome.ensures.capacity
 
 -- the heap is ordered at the end
 pub invariant_of-heap : goal.invariant_of-heap
@@ -53,7 +57,8 @@ returns-clause-ran g c =
       k.0,
       c.into_iter-iter.ensures.into_iter_gives,
       rw (written_back _ _ _ (all g here)) (taken g here),
-      MatchResult-weaker c.push_all-outcome.result k.2 (λ u drains. drains) (λ e refused. Yields-front g.U.IntoIter.Iterator.next_gives c.into_iter-iter.result k.0 refused.refused refused.left refused.gave),
+      MatchResult-weaker c.push_all-outcome.result k.2 (λ u drains. drains)
+          (λ e refused. Yields-front g.U.IntoIter.Iterator.next_gives c.into_iter-iter.result k.0 refused.refused refused.left refused.gave),
     )
 
 -- what the call asks of the iterator that comes is what it was told

@@ -20,7 +20,8 @@ returns-in_err-make_room-clause-came g c =
     let ran = c.loop-rest.invariant in
     let came = c.replace_with-left.ensures.0 in
     let on = ran_on g.I.Iterator.remaining ran came.0 _ {Q = λ _. Unit {0}} (if_no _ _ c.if-ended.false came.3) tt in
-    let full : vec_len c.replace_with-left.new.dest ≡ vec_capacity c.replace_with-left.new.dest = subst (λ b. OnFalse b (vec_len c.replace_with-left.new.dest ≡ vec_capacity c.replace_with-left.new.dest)) c.if-ended.false c.replace_with-left.ensures.1.0 in
+    let full : vec_len c.replace_with-left.new.dest ≡ vec_capacity c.replace_with-left.new.dest =
+    subst (λ b. OnFalse b (vec_len c.replace_with-left.new.dest ≡ vec_capacity c.replace_with-left.new.dest)) c.if-ended.false c.replace_with-left.ensures.1.0 in
     let p = err_from_is_err_and c.from_residual.result c.from_residual.ensures.1 in
     rw p.1 (
       ran.seen ++ came.0,

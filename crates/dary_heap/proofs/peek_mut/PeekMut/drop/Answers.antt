@@ -5,16 +5,21 @@ use Rattle.dary_heap.proofs.peek_mut.PeekMut.drop.Goals.{After-swap, then-writte
 use Rattle.dary_heap.proofs.peek_mut.PeekMut.drop.Goals as goal
 
 -- what the heap's vector has then: the same items as a heap, and in the same places if none exceeds the first
-left : (g : _) (c : After-swap g) → IsSameBag c.into_vec-items.result.items c.if-written.items.items × IsHeapOrdered g.J.Judge.order g.row.D c.if-written.items.items × ((IsExceeded g.J.Judge.order (loaned c.args.self).items → ⊥) → c.if-written.items.items ≡ (loaned c.args.self).items)
+left : (g : _) (c : After-swap g) → IsSameBag c.into_vec-items.result.items c.if-written.items.items × IsHeapOrdered g.J.Judge.order g.row.D c.if-written.items.items ×
+    ((IsExceeded g.J.Judge.order (loaned c.args.self).items → ⊥) → c.if-written.items.items ≡ (loaned c.args.self).items)
 left g c =
-    let lent = c.args.self.lent in
+    let on_loan = c.args.self.on_loan in
     elim c.if-written.branch [
       | then-written w ↦
           let zs = w.sink_with.new.items in
           let all : length zs ≡ c.into_vec-items.result.len = w.sink_with.auto.items ∙ w.as_mut_slice.ensures.len in
           let is = w.as_mut_slice.ensures.value ∙ c.into_vec-items.ensures.items in
-          rw (w.items-is, written_back _ zs _ all) (rw w.as_mut_slice.ensures.value at w.sink_with.ensures.bag, (rw is at w.sink_with.ensures.ordered) lent.below_root, sunk_unmoved g.row.D _ zs _ (rw is at w.sink_with.ensures.moved) (rw is at w.sink_with.ensures.unchanged))
-      | else-written w ↦ rw w.items-is (IsPermutation-refl _, rw c.into_vec-items.ensures.items (lent.whole w.if-written.false), λ none. c.into_vec-items.ensures.items)
+          rw (w.items-is, written_back _ zs _ all) (
+            rw w.as_mut_slice.ensures.value at w.sink_with.ensures.bag,
+            (rw is at w.sink_with.ensures.ordered) on_loan.below_root,
+            sunk_unmoved g.row.D _ zs _ (rw is at w.sink_with.ensures.moved) (rw is at w.sink_with.ensures.unchanged),
+          )
+      | else-written w ↦ rw w.items-is (IsPermutation-refl _, rw c.into_vec-items.ensures.items (on_loan.whole w.if-written.false), λ none. c.into_vec-items.ensures.items)
     ]
 
 pub returns-clause-unmoved : goal.returns-clause-unmoved
@@ -25,14 +30,14 @@ returns-clause-first g c = λ none. ap front (returns-clause-unmoved g c none)
 
 pub returns-clause-ordered : goal.returns-clause-ordered
 returns-clause-ordered g c =
-    let lent = c.args.self.lent in
+    let on_loan = c.args.self.on_loan in
     rw c.swap.ensures.x_after (elim c.if-written.branch [
       | then-written w ↦
           let zs = w.sink_with.new.items in
           let all : length zs ≡ c.into_vec-items.result.len = w.sink_with.auto.items ∙ w.as_mut_slice.ensures.len in
           let is = w.as_mut_slice.ensures.value ∙ c.into_vec-items.ensures.items in
-          rw (w.items-is, written_back _ zs _ all) ((rw is at w.sink_with.ensures.ordered) lent.below_root)
-      | else-written w ↦ rw (w.items-is, c.into_vec-items.ensures.items) (lent.whole w.if-written.false)
+          rw (w.items-is, written_back _ zs _ all) ((rw is at w.sink_with.ensures.ordered) on_loan.below_root)
+      | else-written w ↦ rw (w.items-is, c.into_vec-items.ensures.items) (on_loan.whole w.if-written.false)
     ])
 
 pub invariant_of-heap : goal.invariant_of-heap
@@ -74,4 +79,4 @@ returns-clause-alone g c = λ one.
     same_contents _ _ still (returns-clause-capacity g c) (lone_uncounted g.row.D _ _ _ one (returns-clause-counted g c))
 
 pub invariant_of-self : goal.invariant_of-self
-invariant_of-self g c = record { lent = c.args.self.lent }
+invariant_of-self g c = record { on_loan = c.args.self.on_loan }

@@ -16,8 +16,10 @@ loop-place-preserved g c =
     let here = greatest_of_one order place xs in
     record {
       greatest = elim c.if-at_most.branch [
-        | then-at_most w ↦ subst (λ m. IsLastGreatest order first (place + 1) m xs) (sym w.best-is) (joins-right g.met.J.Judge.total xs first place (place + 1) best place _ _ best_is place_is held.greatest here (sym c.at_most.ensures.answer ∙ w.if-at_most.true))
-        | else-at_most w ↦ subst (λ m. IsLastGreatest order first (place + 1) m xs) (sym w.best-is) (joins-left g.met.J.Judge.total xs first place (place + 1) best place _ _ best_is place_is held.greatest here (sym c.at_most.ensures.answer ∙ w.if-at_most.false))
+        | then-at_most w ↦ subst (λ m. IsLastGreatest order first (place + 1) m xs) (sym w.best-is)
+            (joins-right g.met.J.Judge.total xs first place (place + 1) best place _ _ best_is place_is held.greatest here (sym c.at_most.ensures.answer ∙ w.if-at_most.true))
+        | else-at_most w ↦ subst (λ m. IsLastGreatest order first (place + 1) m xs) (sym w.best-is)
+            (joins-left g.met.J.Judge.total xs first place (place + 1) best place _ _ best_is place_is held.greatest here (sym c.at_most.ensures.answer ∙ w.if-at_most.false))
       ];
       counted = omega (arith, held.counted, c.at_most.ensures.counted);
     }

@@ -10,6 +10,7 @@ pub returns : goal.returns
 returns g c =
     let first = c.args.first in let t = c.at_most.result in
     record {
-      greatest = greatest_of_pair g.met.J.Judge.total c.args.hole.now.items first _ _ (omega (arith, c.requires.within)) c.get.ensures c.get-2.ensures t (first + bool_byte t) c.at_most.ensures.answer (stepped t first);
+      greatest = greatest_of_pair g.met.J.Judge.total c.args.hole.now.items first _ _ (omega (arith, c.requires.within)) c.get.ensures c.get-2.ensures t
+          (first + bool_byte t) c.at_most.ensures.answer (stepped t first);
       counted = omega (arith, c.at_most.ensures.counted);
     }

@@ -10,9 +10,9 @@ loop-timer-preserved g c =
     let before = c.loop-timer.invariant in
     let found = c.in-Some.ensures in
     record {
-      taking = IsTaking-more before.taking c.in-Some.timer _ _ found.earliest found.due found.taken c.push_reserved.ensures.items;
+      taking = IsTaking-more before.taking c.in-Some.timer _ _ found.first found.due found.taken c.push_reserved.ensures.items;
       room = omega (arith, length_permutation _ _ found.taken, c.push_reserved.ensures.len, c.push_reserved.ensures.capacity, before.room);
-      kept = found.room ∙ before.kept;
+      kept = (found.room ∙ before.kept.0, found.names ∙ before.kept.1);
       rises = omega (arith, before.rises, found.counted.rises);
       within = omega (arith, before.within, found.counted.within, pops_more g.row.D (length_permutation _ _ found.taken));
     }

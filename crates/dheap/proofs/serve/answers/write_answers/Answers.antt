@@ -13,9 +13,11 @@ loop-reply-preserved g c =
     record {
       whole = whole-next _ _ _ c.loop-reply-test.true c.reply-item.is told c.loop-reply.invariant.whole;
       written = elim c.if-len-ge-FLUSH_THRESHOLD.branch [
-        | then-len-ge-FLUSH_THRESHOLD+in_ok-flush_buffer-2 w ↦ subst₂ (λ o h. Appends (contents c.args.output.now) (append_known (contents o) h.items) (text (read.replies (take (c.loop-reply.reply-index + 1) c.args.replies.now))))
+        | then-len-ge-FLUSH_THRESHOLD+in_ok-flush_buffer-2 w ↦
+            subst₂ (λ o h. Appends (contents c.args.output.now) (append_known (contents o) h.items) (text (read.replies (take (c.loop-reply.reply-index + 1) c.args.replies.now))))
             (sym w.output-is) (sym w.buffer-is) (buffer_flushed _ _ _ _ _ _ all w.in_ok-flush_buffer-2.ensures.passed w.in_ok-flush_buffer-2.ensures.none)
-        | else-len-ge-FLUSH_THRESHOLD w ↦ subst₂ (λ o h. Appends (contents c.args.output.now) (append_known (contents o) h.items) (text (read.replies (take (c.loop-reply.reply-index + 1) c.args.replies.now))))
+        | else-len-ge-FLUSH_THRESHOLD w ↦
+            subst₂ (λ o h. Appends (contents c.args.output.now) (append_known (contents o) h.items) (text (read.replies (take (c.loop-reply.reply-index + 1) c.args.replies.now))))
             (sym w.output-is) (sym w.buffer-is) all
       ];
     }

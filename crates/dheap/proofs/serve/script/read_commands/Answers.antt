@@ -21,7 +21,8 @@ loop-number-preserved g c =
         omega (arith, number, length-append before (text ∷ [])),
         Say-append before (text ∷ []) lines (line ∷ []) say (says, tt),
         CarryOut-more _ _ _ _ _ _ carry c.command.ensures (elim c.match-command.branch [
-          | in-Some-command+in_ok-push w ↦ ap (λ v. read.commands v.items) w.commands-is ∙ ap (λ v. read.commands v) w.in_ok-push.ensures.items ∙ map-append read.command c.loop-number.commands.items (w.in-Some-command.command ∷ [])
+          | in-Some-command+in_ok-push w ↦ ap (λ v. read.commands v.items) w.commands-is ∙ ap (λ v. read.commands v) w.in_ok-push.ensures.items
+              ∙ map-append read.command c.loop-number.commands.items (w.in-Some-command.command ∷ [])
               ∙ ap (λ o. made ++ map read.command (option_to_list o)) (sym w.in-Some-command.is)
           | in_default-command w ↦ ap (λ v. read.commands v.items) w.commands-is ∙ sym (append-nil made) ∙ ap (λ o. made ++ map read.command (option_to_list o)) (sym w.in_default-command.is)
         ]),
@@ -32,6 +33,7 @@ pub returns-clause-said : goal.returns-clause-said
 returns-clause-said g c =
     let (before, lines, all, number, say, carry) = c.loop-number.invariant.1 in
     elim c.loop-number-test.branch [
-      | else-loop-number-test w ↦ absurd (omega (arith, number, w.loop-number-test.false, few_lines (λ b. b == 10) c.args.script.now, ap (λ l. length l) all, length-append before (lines_left c.loop-number.rest)))
+      | else-loop-number-test w ↦
+          absurd (omega (arith, number, w.loop-number-test.false, few_lines (λ b. b == 10) c.args.script.now, ap (λ l. length l) all, length-append before (lines_left c.loop-number.rest)))
       | then-loop-number-test+in_default w ↦ (lines, subst (λ ls. Say ls lines) (sym (all ∙ ap (λ r. before ++ lines_left r) w.in_default.is ∙ append-nil before)) say, carry)
     ]

@@ -1,3 +1,5 @@
+use Rattle.indexed_heap.proofs.Placing.{distinct}
+use Rattle.indexed_heap.proofs.Reading.{given_is}
 use Rattle.indexed_heap.proofs.Sound.{sound}
 use Rattle.indexed_heap.proofs.heap.IndexedHeap.insert.Goals as goal
 
@@ -12,3 +14,7 @@ returns-clause-counted g c = rw (← c.self.view_is) c.set.ensures.counted
 
 pub returns-clause-roomy : goal.returns-clause-roomy
 returns-clause-roomy g c = rw (← c.self.view_is) c.set.ensures.roomy
+
+pub returns-clause-given : goal.returns-clause-given
+returns-clause-given g c =
+    rw (← c.self.view_is) (given_is c.args.key c.args.item c.self.inside.slots.items c.set.new.slots.items c.set.result c.set.ensures.gets (record { once = distinct c.self.invariant.1 }))

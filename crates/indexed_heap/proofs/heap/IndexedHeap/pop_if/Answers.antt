@@ -7,11 +7,13 @@ returns-then-predicate-clause-asked g c = λ entry is.
     let shown = c.in_ok-key.item in
     let first = c.in_ok-key.ensures.first in
     let same : (c.in_ok-key.key, shown.now) ≡ entry = (cc) in
-    subst (λ (e : ℕ × g.row.T.Denot). (answer : Bool) × MayAnswer g.F.FnOnce c.args.predicate e answer × (c.pop.result ≡ (if answer then Some e else None))) same (true, (shown, c.if-predicate.ensures, refl), c.pop.ensures.first ∙ first)
+    subst (λ (e : ℕ × g.row.T.Denot). (answer : Bool) × MayAnswer g.F.FnOnce c.args.predicate e answer × (c.pop.result ≡ (if answer then Some e else None))) same
+    (true, (shown, c.if-predicate.ensures, refl), c.pop.ensures.first ∙ first)
 
 pub returns-else-predicate-clause-asked : goal.returns-else-predicate-clause-asked
 returns-else-predicate-clause-asked g c = λ entry is.
     let shown = c.in_ok-key.item in
     let first = c.in_ok-key.ensures.first in
     let same : (c.in_ok-key.key, shown.now) ≡ entry = (cc) in
-    subst (λ (e : ℕ × g.row.T.Denot). (answer : Bool) × MayAnswer g.F.FnOnce c.args.predicate e answer × (None ≡ (if answer then Some e else None))) same (false, (shown, c.if-predicate.ensures, refl), refl)
+    subst (λ (e : ℕ × g.row.T.Denot). (answer : Bool) × MayAnswer g.F.FnOnce c.args.predicate e answer × (None ≡ (if answer then Some e else None))) same
+    (false, (shown, c.if-predicate.ensures, refl), refl)

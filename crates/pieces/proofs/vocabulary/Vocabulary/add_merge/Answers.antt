@@ -14,8 +14,10 @@ returns-clause-added c = λ added.
     let same = c.in_ok-piece.ensures.merges in
     let none : c.in_ok-before.before ≡ None = search (rules, tests) in
     let rank : c.in-Ok.rank ≡ hash_map_len old.merges = search rules in
-    let text : c.extend_from_slice.new.self.items ≡ c.args.left.now ++ c.args.right.now = c.in_ok-extend_from_slice.ensures.items ∙ ap (λ xs. xs ++ c.args.right.now) (c.in_ok-text.ensures.items_if_clones_equal (λ x y q. search rules)) in
-    let named = subst (λ found. IfSome found (λ number. IsNamed c.extend_from_slice.new.self.items number (names_of old) (names_of c.number_or_new.new.self))) c.in-Some.is c.in_ok-piece.ensures.named in
+    let text : c.extend_from_slice.new.self.items ≡ c.args.left.now ++ c.args.right.now =
+    c.in_ok-extend_from_slice.ensures.items ∙ ap (λ xs. xs ++ c.args.right.now) (c.in_ok-text.ensures.items_if_clones_equal (λ x y q. search rules)) in
+    let named =
+    subst (λ found. IfSome found (λ number. IsNamed c.extend_from_slice.new.self.items number (names_of old) (names_of c.number_or_new.new.self))) c.in-Some.is c.in_ok-piece.ensures.named in
     record {
       first = first;
       second = second;
@@ -26,7 +28,8 @@ returns-clause-added c = λ added.
       merges = table-here c.number_or_new.new.self.merges c.insert.new.self first second _ c.in_ok-before.ensures.updates ∙ ap (λ n. Some (record { rank = n; piece = c.in-Some.piece })) rank;
       others = λ x y other. table-others c.number_or_new.new.self.merges c.insert.new.self first second _ c.in_ok-before.ensures.updates x y other ∙ ap (λ m. table_of m x y) same;
       count = c.in_ok-before.ensures.len ∙ ap (λ o. hash_map_len c.number_or_new.new.self.merges + (if is_some o then 0 else 1)) none ∙ ap (λ m. hash_map_len m + 1) same;
-      named = subst (λ t. IsNamed t c.in-Some.piece (names_of old) (names_of (record { merges = c.insert.new.self; texts = c.number_or_new.new.self.texts; numbers = c.number_or_new.new.self.numbers }))) text
+      named = subst (λ t. IsNamed t c.in-Some.piece (names_of old)
+          (names_of (record { merges = c.insert.new.self; texts = c.number_or_new.new.self.texts; numbers = c.number_or_new.new.self.numbers }))) text
           (record { named = named.named; as_before = named.as_before; others = named.others; texts = named.texts });
     }
 
@@ -38,5 +41,6 @@ returns-clause-refused c = λ no first second left right. inl (λ none.
     let first_is : first ≡ c.in-Some-Some.first = cc in
     let second_is : second ≡ c.in-Some-Some.second = cc in
     let here : table_of old.merges c.in-Some-Some.first c.in-Some-Some.second ≡ None = subst₂ (λ x y. table_of old.merges x y ≡ None) first_is second_is none in
-    let before : c.in_ok-before.before ≡ None = c.in_ok-before.ensures.old ∙ sym (table-get _ _ _) ∙ ap (λ m. table_of m c.in-Some-Some.first c.in-Some-Some.second) c.in_ok-piece.ensures.merges ∙ here in
+    let before : c.in_ok-before.before ≡ None =
+    c.in_ok-before.ensures.old ∙ sym (table-get _ _ _) ∙ ap (λ m. table_of m c.in-Some-Some.first c.in-Some-Some.second) c.in_ok-piece.ensures.merges ∙ here in
     absurd (true≢false (sym (sym (ap is_some before) ∙ c.is_none.ensures ∙ ap not no))))

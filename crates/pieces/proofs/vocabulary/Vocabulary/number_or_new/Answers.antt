@@ -11,12 +11,14 @@ returns-clause-named c =
       named = put-here (λ key. key.items) c.args.self.now.numbers c.insert.new.self c.args.text _ c.in_ok-insert.ensures.updates;
       as_before = λ before e. let clash : None ≡ Some before = sym none ∙ e in cc;
       others = λ other ne. put-others (λ key. key.items) c.args.self.now.numbers c.insert.new.self c.args.text _ c.in_ok-insert.ensures.updates other ne;
-      texts = λ before its e. subst (λ xs. option_map (λ text. text.items) (slice_get xs before) ≡ Some its) (sym c.in_ok-push.ensures.items) (text-kept (λ text. text.items) c.in_ok-copy.copy c.args.self.now.texts.items before its e);
+      texts = λ before its e. subst (λ xs. option_map (λ text. text.items) (slice_get xs before) ≡ Some its) (sym c.in_ok-push.ensures.items)
+          (text-kept (λ text. text.items) c.in_ok-copy.copy c.args.self.now.texts.items before its e);
     }
 
 pub returns-clause-texts : goal.returns-clause-texts
 returns-clause-texts c =
-    let named : IsNamed c.args.text.items c.in-Ok.number (names_of c.args.self.now) (names_of (record { merges = c.args.self.now.merges; texts = c.push.new.self; numbers = c.insert.new.self })) = returns-clause-named c in
+    let named : IsNamed c.args.text.items c.in-Ok.number (names_of c.args.self.now) (names_of (record { merges = c.args.self.now.merges; texts = c.push.new.self; numbers = c.insert.new.self })) =
+    returns-clause-named c in
     let number : c.in-Ok.number ≡ length c.args.self.now.texts.items = search rules in
     let copied = c.in_ok-copy.ensures.items_if_clones_equal (λ x y q. search rules) ∙ c.as_slice-2.ensures.value in
     AreTexts-named _ _ _ _ c.requires.texts named

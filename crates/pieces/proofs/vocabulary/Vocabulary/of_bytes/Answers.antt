@@ -20,7 +20,8 @@ loop-number-preserved c =
       below = below-more l.number _ _ _ _ l.invariant.below
           (subst (λ t. get_by (λ k. pointwise nat_eq t k.items) c.insert.new.self ≡ Some l.number) key_is (put-here (λ k. k.items) l.numbers c.insert.new.self key _ put))
           (λ other ne. put-others (λ k. k.items) l.numbers c.insert.new.self key _ put other (λ q. ne (q ∙ key_is)))
-          (ap (λ xs. option_map (λ t. t.items) (slice_get xs l.number)) pushed ∙ ap (λ n. option_map (λ t. t.items) (slice_get (l.texts.items ++ made ∷ []) n)) (sym l.invariant.len) ∙ text-added (λ t. t.items) made l.texts.items ∙ ap (λ t. Some t) text)
+          (ap (λ xs. option_map (λ t. t.items) (slice_get xs l.number)) pushed ∙ ap (λ n. option_map (λ t. t.items) (slice_get (l.texts.items ++ made ∷ []) n)) (sym l.invariant.len)
+          ∙ text-added (λ t. t.items) made l.texts.items ∙ ap (λ t. Some t) text)
           (λ b its e. subst (λ xs. option_map (λ t. t.items) (slice_get xs b) ≡ Some its) (sym pushed) (text-kept (λ t. t.items) made l.texts.items b its e));
       len = ap (λ xs. length xs) pushed ∙ length-append l.texts.items (made ∷ []) ∙ ap (λ n. n + 1) l.invariant.len;
     }

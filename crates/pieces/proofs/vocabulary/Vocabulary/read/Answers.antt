@@ -30,7 +30,8 @@ pub returns-clause-said : goal.returns-clause-said
 returns-clause-said c =
     let (bytes, before, are, lead, all, number) = c.loop-number.invariant.1 in
     elim c.loop-number-test.branch [
-      | else-loop-number-test w ↦ absurd (omega (arith, number, w.loop-number-test.false, few_lines (λ b. b == 10) c.args.table.now, ap (λ l. length l) all, length-append before (lines_left c.loop-number.rest)))
+      | else-loop-number-test w ↦
+          absurd (omega (arith, number, w.loop-number-test.false, few_lines (λ b. b == 10) c.args.table.now, ap (λ l. length l) all, length-append before (lines_left c.loop-number.rest)))
       | then-loop-number-test+in_default w ↦
           (bytes, are, subst (λ ls. LeadTo ls bytes (names_of c.loop-number.vocabulary)) (sym (all ∙ ap (λ r. before ++ lines_left r) w.in_default.is ∙ append-nil before)) lead)
     ]

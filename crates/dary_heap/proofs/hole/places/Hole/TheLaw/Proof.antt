@@ -1,12 +1,14 @@
 -- A `&` to a `Hole` is made of a borrow of it. Of its row of places it lends, for each item that lies there, what a `&` to it holds. Assumes `Logic`.
-use Rattle.dary_heap.proofs.hole.Walks.{Bool, true, false, List, [], ◌∷◌, ℕ, ◌*◌, ◌^◌, Ura, Lft, Fml, Incl, ftrue, fsep, flt, Logic, RattleType, Ptr, block_ptr, null_ptr, in_block, ◌+ₚ◌, Laws, Lends, Lends-both, Lends-false, Lends-lies, Lends-nothing, Lends-said, lent_at_shr_laws, bytes_of, slot, slots, owned, slot_lent, slots_lent, lent, ◌++◌, Incl-trans, meet_⊑_left, RawPtr-copy, usize-copy, of_Lends}
+use Rattle.dary_heap.proofs.hole.Walks.{Bool, true, false, List, [], ◌∷◌, ℕ, ◌*◌, ◌^◌, Ura, Lft, Fml, Incl, ftrue, fsep, flt, Logic, RattleType, Ptr, block_ptr, null_ptr, in_block, ◌+ₚ◌, Laws}
+use Rattle.dary_heap.proofs.hole.Walks.{Lends, Lends-both, Lends-false, Lends-lies, Lends-nothing, Lends-said, lent_at_shr_laws, bytes_of, slot, slots, owned, slot_lent, slots_lent, lent, ◌++◌}
+use Rattle.dary_heap.proofs.hole.Walks.{Incl-trans, meet_⊑_left, RawPtr-copy, usize-copy, of_Lends}
 use denote.Shares.{Shares-less}
 use denote.Sharing.{ShrLaws, nothing, said, beside}
 use denote.SharingLaws.{nothing_shr_laws, said_shr_laws, beside_shr_laws}
 use denote.Pure.{Pure}
 use denote.Param.Shared.{copy_shared}
 use denote.Struct.Field.{RawPtr-field, usize-field}
-use Rattle.dary_heap.specs.Places.{filled_but}
+use Rattle.dary_heap.specs.hole.Places.{filled_but}
 use Rattle.dary_heap.specs.declared.hole.places.Hole.{Hole}
 use Rattle.dary_heap.proofs.hole.places.Hole.TheLaw.Statement.{statement}
 use Rattle.dary_heap.specs.contracts.hole.places.Hole as C

@@ -1,6 +1,11 @@
 -- `fill` writes the item into the empty place, at any item type. Assumes `Logic`.
-use Rattle.dary_heap.proofs.hole.{ℕ, ◌+◌, ◌*◌, ◌<◌, ◌^◌, Bool, true, List, [], ◌∷◌, ◌++◌, ◌≡◌, refl, sym, subst, ◌∙◌, arith, length, set, length-set, Ura, ftrue, froom, flft, inst_fn, Fn, w64, Val, vint, Model, WpFn, ◌⊑◌, Fun, fact, Running, tables, Logic, ‵, raw, ◌⊛◌, prop, at_ret, ◌$◌, ◌∵◌, !, qed, move, keep, drop, use1, use3, split, fsplit, fsplit3, rewrite, group, regoal, suffices, done, whole, sub, agg, init, stop, fld, size_lit, of_opd, bin, and_then, no_more, assigns, first, blocks, exec, returns, enter, alloc_all, pass_all, free_all, look_at, get, get_in, through, sets, sets_last, env, usize, yes, no, layout, one_value, uint_vals, owns, block_ptr, plain, types_at, heard, nothing, Clauses, Ended, Stays, stay_dropped, Goes-dropped, walk_of, ends_at, proved_at, says_two, El, R, args, el_x, elτ, Good, lawful, after, sz, besides, room_out, value_in, slots, two_words, words, words_fit, Hollow, filled_again, many_marks, hollow_tells, size_fits, offset_fits, row_found, row_in}
-use Rattle.dary_heap.specs.Places.{all_filled, filled_but}
+use Rattle.dary_heap.proofs.hole.{ℕ, ◌+◌, ◌*◌, ◌<◌, ◌^◌, Bool, true, List, [], ◌∷◌, ◌++◌, ◌≡◌, refl, sym, subst, ◌∙◌, arith, length, set, length-set, Ura, ftrue, froom, flft, inst_fn, Fn, w64, Val}
+use Rattle.dary_heap.proofs.hole.{vint, Model, WpFn, ◌⊑◌, Fun, fact, Running, tables, Logic, ‵, raw, ◌⊛◌, prop, at_ret, ◌$◌, ◌∵◌, !, qed, move, keep, drop, use1, use3, split, fsplit, fsplit3}
+use Rattle.dary_heap.proofs.hole.{rewrite, group, regoal, suffices, done, whole, sub, agg, init, stop, fld, size_lit, of_opd, bin, and_then, no_more, assigns, first, blocks, exec, returns, enter}
+use Rattle.dary_heap.proofs.hole.{alloc_all, pass_all, free_all, look_at, get, get_in, through, sets, sets_last, env, usize, yes, no, layout, one_value, uint_vals, owns, block_ptr, plain, types_at}
+use Rattle.dary_heap.proofs.hole.{heard, nothing, Clauses, Ended, Stays, stay_dropped, Goes-dropped, walk_of, ends_at, proved_at, says_two, El, R, args, el_x, elτ, Good, lawful, after, sz, besides}
+use Rattle.dary_heap.proofs.hole.{room_out, value_in, slots, two_words, words, words_fit, Hollow, filled_again, many_marks, hollow_tells, size_fits, offset_fits, row_found, row_in}
+use Rattle.dary_heap.specs.hole.Places.{all_filled, filled_but}
 use Rattle.dary_heap.specs.declared.hole.places.Hole.{Hole}
 use Rattle.dary_heap.specs.declared.hole.places.Places.{Places}
 use Rattle.dary_heap.specs.contracts.hole.places.Hole.fill.Key.{name}

@@ -1,7 +1,12 @@
 -- `Hole::get` makes a `&` to the item at a place out of the pointer behind its own `&`.
-use Rattle.dary_heap.proofs.hole.{◌≢◌, ◌≡◌, Bool, true, false, List, [], ◌∷◌, ◌+◌, ◌*◌, ◌<◌, ◌^◌, arith, length, get_or, ftrue, flft, fhide, Val, ‵, ◌⊛◌, ◌$◌, move, drop, use1, split, fsplit, flt_l, Slot, plain, RefOf, usize, hidden_shr, in_a_block, Struct, shape, lent_out, slots_lent, El, R, Hollow, holds_other, many_marks, el_x, one_below, times_below, hd, any-default, none_at_null, value_lent, sz, refl, Fn, w64, named, inst_fn, vptr, ◌⊑◌, fact, tables, yes, uint_vals, uint_Tells, owns, shr_vals, shr_Tells, types_at, nothing, heard, Stays, stay_dropped, Goes-dropped, says, walk_of, ends_at, raw, at_ret, ◌∵◌, !, qed, join, fjoin, feq_i, suffices, done, enter, of_opd, bin, size_lit, addr, load, look, fld, stop, first, blocks, exec, returns, alloc_all, pass_all, free_all, look_at, get, through, sets, sets_last, env, proved, args, after, pointer_in, pointer_out}
+use Rattle.dary_heap.proofs.hole.{◌≢◌, ◌≡◌, Bool, true, false, List, [], ◌∷◌, ◌+◌, ◌*◌, ◌<◌, ◌^◌, arith, length, get_or, ftrue, flft, fhide, Val, ‵, ◌⊛◌, ◌$◌, move, drop, use1, split, fsplit, flt_l}
+use Rattle.dary_heap.proofs.hole.{Slot, plain, RefOf, usize, hidden_shr, in_a_block, Struct, shape, lent_out, slots_lent, El, R, Hollow, holds_other, many_marks, el_x, one_below, times_below, hd}
+use Rattle.dary_heap.proofs.hole.{any-default, none_at_null, value_lent, sz, refl, Fn, w64, named, inst_fn, vptr, ◌⊑◌, fact, tables, yes, uint_vals, uint_Tells, owns, shr_vals, shr_Tells, types_at}
+use Rattle.dary_heap.proofs.hole.{nothing, heard, Stays, stay_dropped, Goes-dropped, says, walk_of, ends_at, raw, at_ret, ◌∵◌, !, qed, join, fjoin, feq_i, suffices, done, enter, of_opd, bin}
+use Rattle.dary_heap.proofs.hole.{size_lit, addr, load, look, fld, stop, first, blocks, exec, returns, alloc_all, pass_all, free_all, look_at, get, through, sets, sets_last, env, proved, args}
+use Rattle.dary_heap.proofs.hole.{after, pointer_in, pointer_out}
 use denote.Opens.{hide, unhide}
-use Rattle.dary_heap.specs.Places.{filled_but}
+use Rattle.dary_heap.specs.hole.Places.{filled_but}
 use Rattle.dary_heap.proofs.hole.places.Hole.get.Statement.{statement}
 use Rattle.dary_heap.specs.contracts.hole.places.Hole as C
 use Rattle.dary_heap.specs.contracts.hole.places.Hole.get as F
@@ -59,6 +64,7 @@ get_spec 𝓤 𝓛 𝓜 𝓡 wired T L =
     sets_last ! (addr ! (through ! refl (stop !))) refl (tt, tt) $
     exec ! 𝓣.C 𝓣.Λ (env (body E).locals l) (after 1 (body E).body) (at_ret _ ((walk_of 𝓛 (F.ended T) (stays E) c).post y)) $
     sets ! (of_opd ! (get ! refl)) refl (tt, tt) $ returns ! (look_at ! 0 refl) $ free_all ! refl $
-    suffices ! _ (ends_at 𝓛 (F.ended T) (stays E) c y (vptr ib (place * sz E + io)) (record { ref_ptr = (ib, place * sz E + io); now = x }) (tt, (tt, tt)) (tt, (tt, tt))) $ says ! (any-default d.items place top x asks.0) $
+    suffices ! _ (ends_at 𝓛 (F.ended T) (stays E) c y (vptr ib (place * sz E + io)) (record { ref_ptr = (ib, place * sz E + io); now = x }) (tt, (tt, tt))
+    (tt, (tt, tt))) $ says ! (any-default d.items place top x asks.0) $
     move ! (0 ∷ 2 ∷ []) $ join ! $ nothing ! $ nothing ! $ fjoin ! $ nothing ! $ fjoin ! $ move ! (2 ∷ []) $
     feq_i ! (List Val) (vptr ib (place * sz E + io) ∷ []) _ refl $ fjoin ! $ move ! (2 ∷ 1 ∷ []) $ done !))))))

@@ -1,6 +1,12 @@
 -- `move_to` reads an item out of its place and writes it into the empty one, at any item type. Assumes `Logic`.
-use Rattle.dary_heap.proofs.hole.{ℕ, ◌+◌, ◌*◌, ◌<◌, ◌^◌, Bool, true, false, List, [], ◌∷◌, ◌≡◌, refl, sym, ap, ◌∙◌, arith, length, get_or, set, length-set, ftrue, fat, froom, flft, full_share, inst_fn, Fn, w64, named, Val, vunit, vptr, ◌⊑◌, fact, tables, ‵, raw, ◌⊛◌, some, given, at_ret, ◌$◌, ◌∵◌, !, qed, move, keep, drop, use1, use2, use3, split, split3, fsplit, fsplit3, feq_i, rewrite, group, pick, learn, suffices, done, whole, sub, look_in, look, init, forget, stop, fld, load, size_lit, unit_lit, of_opd, bin, assigns_last, first, blocks, exec, returns, enter, alloc_all, pass_all, free_all, look_at, get, through, sets, env, usize, yes, uint_vals, uint_Tells, owns, block_ptr, mut_vals, mut_Tells, plain, types_at, heard, nothing, Ended, Stays, stay_ref, stay_dropped, Goes-ref, Goes-dropped, walk_of, ends_at, ◌≢◌, proved, says_three, El, R, args, el_x, elτ, Good, hd, any-default, after, sz, besides, value_out, value_in, room_out, room_in, slots, opens, closes, cell_at, Ptr, Hollow, filled_but_other, holds_other, many_marks, size_fits, offset_fits, row_found, row_in, row_of, words}
-use Rattle.dary_heap.specs.Places.{filled_but}
+use Rattle.dary_heap.proofs.hole.{ℕ, ◌+◌, ◌*◌, ◌<◌, ◌^◌, Bool, true, false, List, [], ◌∷◌, ◌≡◌, refl, sym, ap, ◌∙◌, arith, length, get_or, set, length-set, ftrue, fat, froom, flft, full_share}
+use Rattle.dary_heap.proofs.hole.{inst_fn, Fn, w64, named, Val, vunit, vptr, ◌⊑◌, fact, tables, ‵, raw, ◌⊛◌, some, given, at_ret, ◌$◌, ◌∵◌, !, qed, move, keep, drop, use1, use2, use3, split, split3}
+use Rattle.dary_heap.proofs.hole.{fsplit, fsplit3, feq_i, rewrite, group, pick, learn, suffices, done, whole, sub, look_in, look, init, forget, stop, fld, load, size_lit, unit_lit, of_opd, bin}
+use Rattle.dary_heap.proofs.hole.{assigns_last, first, blocks, exec, returns, enter, alloc_all, pass_all, free_all, look_at, get, through, sets, env, usize, yes, uint_vals, uint_Tells, owns}
+use Rattle.dary_heap.proofs.hole.{block_ptr, mut_vals, mut_Tells, plain, types_at, heard, nothing, Ended, Stays, stay_ref, stay_dropped, Goes-ref, Goes-dropped, walk_of, ends_at, ◌≢◌, proved}
+use Rattle.dary_heap.proofs.hole.{says_three, El, R, args, el_x, elτ, Good, hd, any-default, after, sz, besides, value_out, value_in, room_out, room_in, slots, opens, closes, cell_at, Ptr, Hollow}
+use Rattle.dary_heap.proofs.hole.{filled_but_other, holds_other, many_marks, size_fits, offset_fits, row_found, row_in, row_of, words}
+use Rattle.dary_heap.specs.hole.Places.{filled_but}
 use Rattle.dary_heap.specs.declared.hole.places.Hole.{Hole}
 use Rattle.dary_heap.specs.contracts.hole.places.Hole.move_to.Key.{name}
 use Rattle.dary_heap.proofs.hole.places.Hole.move_to.Statement.{statement}
@@ -29,7 +35,8 @@ move_to_spec 𝓤 𝓛 𝓜 𝓡 wired X L =
     let rb : ℕ = a.0.ref_ptr.0 in let ro : ℕ = a.0.ref_ptr.1 in
     let y : W.Ghost = ((κs, qs, bounds, a, (mut_vals a.0, (uint_vals w64 place, (uint_vals w64 at, tt)))), tt) in
     let Other : Type 0 = (place < length xs) × (place ≢ at) in
-    qed 𝓛 (((‵ (flft κs.0 qs.0) ⊛ ‵ (flft κs.1.0 qs.1.0) ⊛ ‵ ftrue) ⊛ ‵ (owns (types_at (moved E).signature.params κs) a y.0.4)) ∷ (raw (fact 𝓤 (κs.1.0 ⊑ X.lives)) ⊛ raw (fact 𝓤 (at ≡ h.at)) ⊛ raw (fact 𝓤 Other)) ∷ []) ∵
+    qed 𝓛 (((‵ (flft κs.0 qs.0) ⊛ ‵ (flft κs.1.0 qs.1.0) ⊛ ‵ ftrue) ⊛ ‵ (owns (types_at (moved E).signature.params κs) a y.0.4)) ∷ (raw (fact 𝓤 (κs.1.0 ⊑ X.lives)) ⊛ raw (fact 𝓤 (at ≡ h.at)) ⊛ raw
+    (fact 𝓤 Other)) ∷ []) ∵
     move ! (1 ∷ []) $ split3 ! $ drop ! $ heard ! (at ≡ h.at) (λ here. heard ! Other (λ other.
     split ! $ split3 ! $ move ! (3 ∷ []) $ fsplit ! $ fsplit3 ! $ keep ! (1 ∷ 2 ∷ 4 ∷ 5 ∷ []) $
     enter ! _ _ _ _ _ $ alloc_all ! (λ l. pass_all ! refl ((tt, tt), ((tt, record { fits = are.1.0.1 }), ((tt, record { fits = are.1.1.0.1 }), tt))) $
@@ -38,8 +45,10 @@ move_to_spec 𝓤 𝓛 𝓜 𝓡 wired X L =
     rewrite ! 1 (λ (ws : List Val). ‵ (cell_at full_share (Hollow E).mir ws rb ro)) words_are refl $
     let d : el_x E = hd xs (omega (arith, other.0)) in let x : el_x E = get_or xs place d in
     let fs : List Bool = filled_but n at in let fs' : List Bool = set fs place false in let xs' : List (el_x E) = set xs at x in
-    let count : n ≡ length xs = h.ok.0 in let low : h.at < n = h.ok.1 in let p_xs : place < length xs = other.0 in let marks : length fs ≡ n = many_marks n at in let marks' : length fs' ≡ length fs = length-set fs place false in
-    let at_n : at < n = omega arith in let p_n : place < n = omega arith in let p_fs : place < length fs = omega arith in let at_xs : at < length xs = omega arith in let at_fs : at < length fs' = omega arith in
+    let count : n ≡ length xs = h.ok.0 in let low : h.at < n = h.ok.1 in let p_xs : place < length xs = other.0 in let marks : length fs ≡ n = many_marks n at in
+    let marks' : length fs' ≡ length fs = length-set fs place false in
+    let at_n : at < n = omega arith in let p_n : place < n = omega arith in let p_fs : place < length fs = omega arith in let at_xs : at < length xs = omega arith in
+    let at_fs : at < length fs' = omega arith in
     let one : sz E < 2 ^ 64 = size_fits E n at at_n room in let to : at * sz E < 2 ^ 64 = offset_fits E n at at_n room in let from : place * sz E < 2 ^ 64 = offset_fits E n place p_n room in
     let new : Hole (el_x E) = record { ptr = h.ptr; len = n; items = xs'; at = place; ok = (count ∙ sym (length-set xs at x), p_n); small = h.small } in
     rewrite ! 0 (λ (k : ℕ). ‵ (slots (R E) (block_ptr b o) xs (filled_but n k))) (sym here) refl $

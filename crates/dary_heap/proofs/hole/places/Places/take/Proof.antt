@@ -1,7 +1,13 @@
 -- `take` reads an item out of its place, at any item type. Assumes `Logic`.
-use Rattle.dary_heap.proofs.hole.{ℕ, ◌+◌, ◌*◌, ◌<◌, ◌^◌, true, false, List, [], ◌∷◌, ◌++◌, ◌≡◌, refl, sym, arith, length, get_or, length-replicate, get_or-replicate, ftrue, fat, flft, full_share, inst_fn, Fn, w64, Val, vint, vstruct, vcons, vnil, WpFn, ◌⊑◌, fact, tables, ‵, raw, ◌⊛◌, some, given, prop, at_ret, ◌$◌, ◌∵◌, !, qed, move, keep, drop, use1, use2, split, split3, fsplit, fjoin, fjoin3, fpack, feq_i, group, pick, learn, regoal, suffices, done, whole, sub, agg, look, forget, stop, fld, load, size_lit, of_opd, bin, and_then, no_more, first, blocks, exec, returns, enter, alloc_all, pass_all, free_all, look_at, get, get_in, through, sets, sets_last, env, usize, yes, no, uint_vals, uint_Tells, Valss, mirs, owns, block_ptr, plain, types_at, heard, nothing, within, as_fields, tuple_type, Ended, Stays, stay_dropped, Goes-dropped, walk_of, ends_at, proved, El, R, args, el_x, elτ, Good, hd, any-default, after, says_four, sz, besides, value_out, room_in, slots, two_words, words, words_fit, Whole, Hollow, whole_tells, size_fits, offset_fits, row_found, row_in}
+use Rattle.dary_heap.proofs.hole.{ℕ, ◌+◌, ◌*◌, ◌<◌, ◌^◌, true, false, List, [], ◌∷◌, ◌++◌, ◌≡◌, refl, sym, arith, length, get_or, length-replicate, get_or-replicate, ftrue, fat, flft, full_share}
+use Rattle.dary_heap.proofs.hole.{inst_fn, Fn, w64, Val, vint, vstruct, vcons, vnil, WpFn, ◌⊑◌, fact, tables, ‵, raw, ◌⊛◌, some, given, prop, at_ret, ◌$◌, ◌∵◌, !, qed, move, keep, drop, use1, use2}
+use Rattle.dary_heap.proofs.hole.{split, split3, fsplit, fjoin, fjoin3, fpack, feq_i, group, pick, learn, regoal, suffices, done, whole, sub, agg, look, forget, stop, fld, load, size_lit, of_opd}
+use Rattle.dary_heap.proofs.hole.{bin, and_then, no_more, first, blocks, exec, returns, enter, alloc_all, pass_all, free_all, look_at, get, get_in, through, sets, sets_last, env, usize, yes, no}
+use Rattle.dary_heap.proofs.hole.{uint_vals, uint_Tells, Valss, mirs, owns, block_ptr, plain, types_at, heard, nothing, within, as_fields, tuple_type, Ended, Stays, stay_dropped, Goes-dropped}
+use Rattle.dary_heap.proofs.hole.{walk_of, ends_at, proved, El, R, args, el_x, elτ, Good, hd, any-default, after, says_four, sz, besides, value_out, room_in, slots, two_words, words, words_fit}
+use Rattle.dary_heap.proofs.hole.{Whole, Hollow, whole_tells, size_fits, offset_fits, row_found, row_in}
 use denote.Struct.Declared.{shape}
-use Rattle.dary_heap.specs.Places.{all_filled, filled_but}
+use Rattle.dary_heap.specs.hole.Places.{all_filled, filled_but}
 use Rattle.dary_heap.specs.declared.hole.places.Hole.{Hole}
 use Rattle.dary_heap.specs.declared.hole.places.Places.{Places}
 use Rattle.dary_heap.specs.contracts.hole.places.Places.take.Key.{name}
@@ -32,7 +38,8 @@ take_spec 𝓤 𝓛 𝓜 𝓡 wired X L =
     move ! (1 ∷ []) $ split ! $ drop ! $ heard ! (i < length xs) (λ within_xs. split ! $ move ! (1 ∷ []) $ fsplit ! $ keep ! (0 ∷ 2 ∷ []) $
     row_found E ! p.ptr n xs (all_filled n) _ (λ b o at is room.
     let count : n ≡ length xs = p.ok in let marks : length (all_filled n) ≡ n = length-replicate n true in
-    let i_n : i < n = omega arith in let one : sz E < 2 ^ 64 = size_fits E n i i_n room in let reach : i * sz E < 2 ^ 64 = offset_fits E n i i_n room in let i_marks : i < length (all_filled n) = omega arith in
+    let i_n : i < n = omega arith in let one : sz E < 2 ^ 64 = size_fits E n i i_n room in let reach : i * sz E < 2 ^ 64 = offset_fits E n i i_n room in
+    let i_marks : i < length (all_filled n) = omega arith in
     let d : el_x E = hd xs (omega arith) in let x : el_x E = get_or xs i d in
     let rest : Hole (el_x E) = record { ptr = block_ptr b o; len = n; items = xs; at = i; ok = (count, i_n); small = room.0 } in
     regoal ! (λ (us : List Val). prop (WpFn 𝓤 𝓛.H 𝓣.C 𝓣.Λ (body E) (us ++ (vint w64 i ∷ [])) (W.post y))) is refl $

@@ -2,7 +2,7 @@ use Rattle.dary_heap.proofs.Common.{sym, get_or_from_slice_get}
 use Rattle.dary_heap.proofs.peek_mut.methods.PeekMut+T+D+J.pop.Goals as goal
 
 pub unwrap-item-requires : goal.unwrap-item-requires
-unwrap-item-requires g c = c.pop_with.ensures.variant.1 (rw c.args.this.items.ok.0 c.args.this.lent.some)
+unwrap-item-requires g c = c.pop_with.ensures.variant.1 (rw c.args.this.items.ok.0 c.args.this.on_loan.some)
 
 pub returns-clause-first : goal.returns-clause-first
 returns-clause-first g c = rw c.unwrap-item.ensures at c.pop_with.ensures.first

@@ -6,7 +6,7 @@ use Rattle.dary_heap.proofs.peek_mut.methods.PeekMut+T+D+J.refresh.Goals as goal
 
 pub returns-then-not-self : goal.returns-then-not-self
 returns-then-not-self g c =
-    let ordered = c.args.self.now.lent.whole (search rules) in
+    let ordered = c.args.self.now.on_loan.whole (search rules) in
     record {
       moved = (λ never. cc, λ over. absurd (none_exceeds g.row.D g.met.J.Judge.total _ ordered over));
       bag = IsPermutation-refl _;
@@ -29,27 +29,31 @@ written g c ws = written_back _ c.sink_with-moved.new.items ws (c.sink_with-move
 
 -- a heap
 ordered : (g : _) (c : After-self-1 g) → IsHeapOrdered g.J.Judge.order g.row.D c.sink_with-moved.new.items
-ordered g c = (rw c.as_mut_slice.ensures.value at c.sink_with-moved.ensures.ordered) c.args.self.now.lent.below_root
+ordered g c = (rw c.as_mut_slice.ensures.value at c.sink_with-moved.ensures.ordered) c.args.self.now.on_loan.below_root
 
 pub returns-clause-moved : goal.returns-clause-moved
 returns-clause-moved g c =
     let is = c.as_mut_slice.ensures.value in
-    sunk_moved g.row.D g.met.J.Judge.total c.args.self.now.items.items c.sink_with-moved.new.items _ (rw is at c.sink_with-moved.ensures.moved) (rw is at c.sink_with-moved.ensures.unchanged) (ordered g (goal.at.returns-clause-moved g c).After-self-1)
+    sunk_moved g.row.D g.met.J.Judge.total c.args.self.now.items.items c.sink_with-moved.new.items _ (rw is at c.sink_with-moved.ensures.moved) (rw is at c.sink_with-moved.ensures.unchanged)
+    (ordered g (goal.at.returns-clause-moved g c).After-self-1)
 
 pub returns-clause-greatest : goal.returns-clause-greatest
-returns-clause-greatest g c = rw (written g (goal.at.returns-clause-greatest g c).After-self-1 _) (ordered_state g.met.J.Judge.total g.row.D _ (ordered g (goal.at.returns-clause-greatest g c).After-self-1))
+returns-clause-greatest g c =
+    rw (written g (goal.at.returns-clause-greatest g c).After-self-1 _) (ordered_state g.met.J.Judge.total g.row.D _ (ordered g (goal.at.returns-clause-greatest g c).After-self-1))
 
 pub returns-clause-alone : goal.returns-clause-alone
 returns-clause-alone g c = λ one.
     let xs = c.args.self.now.items.items in
     let is = c.as_mut_slice.ensures.value in
-    let still = sunk_unmoved g.row.D xs c.sink_with-moved.new.items _ (rw is at c.sink_with-moved.ensures.moved) (rw is at c.sink_with-moved.ensures.unchanged) (lone_unexceeded g.J.Judge.order xs one) in
-    same_contents _ _ (written g (goal.at.returns-clause-alone g c).After-self-1 _ ∙ still) refl (lone_uncounted g.row.D (length xs) _ _ one (rw is at c.sink_with-moved.ensures.counted) ∙ ap (λ (it : Contents g.row.T.Denot). it.comparisons) c.heap.view_is)
+    let still =
+    sunk_unmoved g.row.D xs c.sink_with-moved.new.items _ (rw is at c.sink_with-moved.ensures.moved) (rw is at c.sink_with-moved.ensures.unchanged) (lone_unexceeded g.J.Judge.order xs one) in
+    same_contents _ _ (written g (goal.at.returns-clause-alone g c).After-self-1 _ ∙ still) refl
+    (lone_uncounted g.row.D (length xs) _ _ one (rw is at c.sink_with-moved.ensures.counted) ∙ ap (λ (it : Contents g.row.T.Denot). it.comparisons) c.heap.view_is)
 
 pub invariant_of-self : goal.invariant_of-self
 invariant_of-self g c =
     let as_many = length_permutation _ _ (rw c.as_mut_slice.ensures.value at c.sink_with-moved.ensures.bag) in
-    record { lent = rw (written g c _) record { some = omega (arith, as_many, c.args.self.now.lent.some); below_root = below_root g.row.D _ (ordered g c); whole = λ settled. ordered g c } }
+    record { on_loan = rw (written g c _) record { some = omega (arith, as_many, c.args.self.now.on_loan.some); below_root = below_root g.row.D _ (ordered g c); whole = λ settled. ordered g c } }
 
 pub returns-clause-bag : goal.returns-clause-bag
 returns-clause-bag g c = rw (written g (goal.at.returns-clause-bag g c).After-self-1 _) (rw c.as_mut_slice.ensures.value at c.sink_with-moved.ensures.bag)

@@ -1,5 +1,7 @@
 -- No code runs: the borrow opens and closes again, with another ghost value.
-use Rattle.dary_heap.proofs.hole.Walks.{◌++◌, [], ◌∷◌, refl, proved, id⊢, ftrue, flft, named, vunit, ‵, ◌⊛◌, ◌$◌, ◌∵◌, !, qed, move, keep, use1, split, join, fsplit, fsplit3, fjoin, fjoin3, feq_i, suffices, done, enter, of_opd, unit_lit, returns, alloc_all, pass_all, free_all, look_at, sets, RefOf, yes, mut_vals, mut_Tells, shr_vals, shr_Tells, owns, plain, types_at, nothing, opens, closes, Stays, walk_of, stay_dropped, Goes-dropped, stay_ref, Goes-ref, ends_at, says_two}
+use Rattle.dary_heap.proofs.hole.Walks.{◌++◌, [], ◌∷◌, refl, proved, id⊢, ftrue, flft, named, vunit, ‵, ◌⊛◌, ◌$◌, ◌∵◌, !, qed, move, keep, use1, split, join, fsplit, fsplit3, fjoin, fjoin3, feq_i}
+use Rattle.dary_heap.proofs.hole.Walks.{suffices, done, enter, of_opd, unit_lit, returns, alloc_all, pass_all, free_all, look_at, sets, RefOf, yes, mut_vals, mut_Tells, shr_vals, shr_Tells, owns}
+use Rattle.dary_heap.proofs.hole.Walks.{plain, types_at, nothing, opens, closes, Stays, walk_of, stay_dropped, Goes-dropped, stay_ref, Goes-ref, ends_at, says_two}
 use Rattle.dary_heap.proofs.Common.{Work}
 use Rattle.dary_heap.specs.contracts.shortest_path.Edge.{the_row as Edge}
 use Rattle.dary_heap.specs.contracts.shortest_path.work.Work.{the_row as R}

@@ -1,5 +1,6 @@
 -- `new` makes the empty struct, and picks the empty list and 0 for its ghost fields.
-use Rattle.dary_heap.proofs.hole.Walks.{[], ◌∷◌, refl, proved, Val, vstruct, vnil, ftrue, ‵, raw, ◌$◌, ◌∵◌, !, qed, keep, join, suffices, done, agg, no_more, returns, enter, alloc_all, pass_all, free_all, look_at, sets, pure_i, nothing, on_entry, ends_at, says_two}
+use Rattle.dary_heap.proofs.hole.Walks.{[], ◌∷◌, refl, proved, Val, vstruct, vnil, ftrue, ‵, raw, ◌$◌, ◌∵◌, !, qed, keep, join, suffices, done, agg, no_more, returns, enter, alloc_all, pass_all}
+use Rattle.dary_heap.proofs.hole.Walks.{free_all, look_at, sets, pure_i, nothing, on_entry, ends_at, says_two}
 use Rattle.dary_heap.proofs.Common.{Work}
 use Rattle.dary_heap.specs.contracts.shortest_path.work.Work.{the_row as R}
 use Rattle.dary_heap.specs.contracts.shortest_path.work.Work.new as f

@@ -1,5 +1,7 @@
 -- No code runs: the borrow opens and closes again, with another ghost value.
-use Rattle.dary_heap.proofs.hole.Walks.{◌+◌, [], ◌∷◌, refl, proved, id⊢, ftrue, flft, named, vunit, ‵, ◌⊛◌, ◌$◌, ◌∵◌, !, qed, move, keep, use1, split, join, fsplit3, feq_i, suffices, frame, group, done, enter, of_opd, unit_lit, returns, alloc_all, pass_all, free_all, look_at, sets, MutRef, mut_vals, mut_Tells, plain, nothing, opens, closes, Stays, walk_of, says, stay_ref, Goes-ref, ends_at}
+use Rattle.dary_heap.proofs.hole.Walks.{◌+◌, [], ◌∷◌, refl, proved, id⊢, ftrue, flft, named, vunit, ‵, ◌⊛◌, ◌$◌, ◌∵◌, !, qed, move, keep, use1, split, join, fsplit3, feq_i, suffices, frame, group}
+use Rattle.dary_heap.proofs.hole.Walks.{done, enter, of_opd, unit_lit, returns, alloc_all, pass_all, free_all, look_at, sets, MutRef, mut_vals, mut_Tells, plain, nothing, opens, closes, Stays}
+use Rattle.dary_heap.proofs.hole.Walks.{walk_of, says, stay_ref, Goes-ref, ends_at}
 use Rattle.dary_heap.proofs.Common.{Count}
 use Rattle.dary_heap.specs.contracts.sift.judge.Count.{the_row as R}
 use Rattle.dary_heap.specs.contracts.sift.judge.Count.add_one as f

@@ -1,5 +1,6 @@
 -- `new` makes the empty struct, and picks 0 for its ghost field.
-use Rattle.dary_heap.proofs.hole.Walks.{[], ◌∷◌, refl, proved, Val, vstruct, vnil, ftrue, ‵, raw, ◌$◌, ◌∵◌, !, qed, keep, join, suffices, done, agg, no_more, returns, enter, alloc_all, pass_all, free_all, look_at, sets, pure_i, nothing, on_entry, says, ends_at}
+use Rattle.dary_heap.proofs.hole.Walks.{[], ◌∷◌, refl, proved, Val, vstruct, vnil, ftrue, ‵, raw, ◌$◌, ◌∵◌, !, qed, keep, join, suffices, done, agg, no_more, returns, enter, alloc_all, pass_all}
+use Rattle.dary_heap.proofs.hole.Walks.{free_all, look_at, sets, pure_i, nothing, on_entry, says, ends_at}
 use Rattle.dary_heap.proofs.Common.{Count}
 use Rattle.dary_heap.specs.contracts.sift.judge.Count.{the_row as R}
 use Rattle.dary_heap.specs.contracts.sift.judge.Count.new as f

@@ -8,5 +8,6 @@ pub returns : goal.returns
 returns c =
     three _ _ _ _ _ _ _ c.next-first.ensures.steps c.next-second.ensures.steps c.next-third.ensures.steps
     (YieldsList-from_filter _ (λ word. not (length word == 0))
-    (YieldsList-at c.filter-words.ensures.source (YieldsList-from_slice_split _ is_blank c.args.line.now c.split.ensures.rest c.split.ensures.done c.split.ensures.closure (λ x b q k. (search (rules, tests), search (rules, tests)))))
+    (YieldsList-at c.filter-words.ensures.source (YieldsList-from_slice_split _ is_blank c.args.line.now c.split.ensures.rest c.split.ensures.done c.split.ensures.closure
+    (λ x b q k. (search (rules, tests), search (rules, tests)))))
     c.filter-words.ensures.closure (λ x b q k. (search (rules, tests), search (rules, tests))))

@@ -16,10 +16,12 @@ pub returns-in-push : goal.returns-in-push
 returns-in-push c =
     let name : c.in_ok-name.name.now ≡ codes "push" = search (rules, four) in
     let (word, ends, is, value) = c.in_ok-number.ensures in
-    push_line c.args.script.now _ word c.in_ok-number.rest.now _ ends is (to_z-of_z w64 _ (subst (FitsSigned w64) (sym value) is.1) ∙ value) (script_begins c.args.script.now _ _ _ c.in_ok-name.ensures.cases name)
+    push_line c.args.script.now _ word c.in_ok-number.rest.now _ ends is (to_z-of_z w64 _ (subst (FitsSigned w64) (sym value) is.1) ∙ value)
+    (script_begins c.args.script.now _ _ _ c.in_ok-name.ensures.cases name)
 
 pub returns-in-test : goal.returns-in-test
 returns-in-test c =
     let name : c.in_ok-name.name.now ≡ codes "test" = search (rules, four) in
     let (word, ends, is, value) = c.in_ok-number.ensures in
-    test_line c.args.script.now _ word c.in_ok-number.rest.now _ ends is (to_z-of_z w64 _ (subst (FitsSigned w64) (sym value) is.1) ∙ value) (script_begins c.args.script.now _ _ _ c.in_ok-name.ensures.cases name)
+    test_line c.args.script.now _ word c.in_ok-number.rest.now _ ends is (to_z-of_z w64 _ (subst (FitsSigned w64) (sym value) is.1) ∙ value)
+    (script_begins c.args.script.now _ _ _ c.in_ok-name.ensures.cases name)

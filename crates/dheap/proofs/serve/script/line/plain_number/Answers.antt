@@ -9,4 +9,5 @@ returns-in-Some c =
     let space = strip_prefix_is Decides-eqb c.args.script.now (32 ∷ []) (Some c.in_ok-word.word) c.in_ok-word.ensures.cases in
     let minus = strip_prefix_is Decides-eqb c.in_ok-word.word.now (45 ∷ []) (Some c.in-Some.digits) c.in-Some.ensures.cases in
     let some = c.in_ok-checked_sub_unsigned.ensures in
-    minus_number c.args.script.now _ c.in-Some.digits.now word c.in_ok-size.rest.now c.in_ok-size.size _ space minus ends digits value (some.0, to_z-of_z w64 _ (subst (FitsSigned w64) (sym some.1) some.0) ∙ some.1)
+    minus_number c.args.script.now _ c.in-Some.digits.now word c.in_ok-size.rest.now c.in_ok-size.size _ space minus ends digits value
+    (some.0, to_z-of_z w64 _ (subst (FitsSigned w64) (sym some.1) some.0) ∙ some.1)

@@ -1,0 +1,79 @@
+//! A call of each public function of `indexed_heap`, at concrete types.
+use crate::Tested;
+use dary_heap::sift::{ByOrd, LeastFirst, Tally};
+use indexed_heap::IndexedHeap;
+use std::default::MadeWith;
+use std::mem;
+
+#[test]
+fn entries_are_read_changed_and_removed_by_key(rt: HostRuntime) -> Tested {
+    let mut heap = IndexedHeap::<u32, 4>::with_capacity(rt.alloc(), 2, 9)?;
+    assert_eq!(rt; (heap.len(), heap.is_empty(), heap.keys()), (0, true, 9));
+    assert_eq!(rt; heap.insert(8, 10), Ok(None));
+    assert_eq!(rt; heap.insert(6, 30), Ok(None));
+    assert_eq!(rt; heap.insert(8, 50), Ok(Some(10)));
+    assert_eq!(rt; heap.raise(6, 20), Ok(false));
+    assert_eq!(rt; heap.raise(6, 60), Ok(true));
+    assert_eq!(rt; heap.insert(usize::MAX, 1), Err(1));
+    assert_eq!(rt; heap.get(6), Some(&60));
+    assert!(rt; heap.contains_key(8) && !heap.contains_key(7));
+    assert_eq!(rt; heap.as_slice(), [(6, 60), (8, 50)].as_slice());
+    assert_eq!(rt; heap.peek(), Some((6, &60)));
+    assert_eq!(rt; heap.remove(8), Some(50));
+    assert_eq!(rt; heap.remove(8), None);
+    assert_eq!(rt; heap.pop(), Some((6, 60)));
+    assert_eq!(rt; heap.pop(), None);
+    Ok(())
+}
+
+// The predicate may be called on any key and item.
+#[test]
+fn the_least_comes_first_by_a_judge(rt: HostRuntime) -> Tested {
+    let judge = LeastFirst(Tally::new());
+    let mut heap = IndexedHeap::<_, 2, _>::with_judge(rt.alloc(), judge);
+    heap.reserve(3, 5)?;
+    assert!(rt; heap.capacity() >= 3);
+    for (key, item) in [(1, 40), (4, 20), (2, 30)] {
+        assert_eq!(rt; heap.insert(key, item), Ok(None));
+    }
+    assert_eq!(rt; heap.judge().0.made(), 2);
+    assert_eq!(rt;
+        heap.pop_if(|key, item| key == 4 && *item < 30),
+        Some((4, 20))
+    );
+    assert_eq!(rt; heap.pop_if(|key, item| key == 4 && *item < 30), None);
+    heap.clear();
+    assert!(rt; heap.is_empty());
+    Ok(())
+}
+
+// A clone of a number is the same number.
+#[test]
+fn entries_are_iterated_and_copied(rt: HostRuntime) -> Tested {
+    let mut heap = IndexedHeap::<u32, 3, ByOrd>::new(rt.alloc());
+    for (key, item) in [(1, 40), (4, 20), (2, 30)] {
+        assert_eq!(rt; heap.insert(key, item), Ok(None));
+    }
+    let mut sorted = heap.clone()?.into_iter_sorted();
+    assert_eq!(rt;
+        (sorted.next(), sorted.next()),
+        (Some((1, 40)), Some((2, 30)))
+    );
+    let mut entries = heap.clone()?.into_iter();
+    assert_eq!(rt;
+        (entries.next(), entries.next_back()),
+        (Some((1, 40)), Some((2, 30)))
+    );
+    let mut shown = heap.iter();
+    assert_eq!(rt;
+        (shown.next(), shown.next_back()),
+        (Some((1, &40)), Some((2, &30)))
+    );
+    assert_eq!(rt; heap.drain().next(), Some((1, 40)));
+    assert!(rt; heap.is_empty());
+    assert_eq!(rt; heap.insert(4, 7), Ok(None));
+    assert_eq!(rt; mem::try_take(&mut heap)?.pop(), Some((4, 7)));
+    let made = IndexedHeap::<u32, 3>::made_with(rt.alloc());
+    assert_eq!(rt; (made.len(), heap.len()), (0, 0));
+    Ok(())
+}

@@ -1,0 +1,4 @@
+-- The lemmas of the module `roads`.
+pub mod Waiting
+pub mod Lowering
+pub mod Counting

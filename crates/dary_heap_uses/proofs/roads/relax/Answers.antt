@@ -1,0 +1,36 @@
+use Rattle.dary_heap.proofs.Common.{◌≡◌, ◌<◌, arith, get_or, get_or_default, length, take_more}
+use Rattle.dary_heap.specs.declared.shortest_path.Edge.{Edge}
+use Rattle.dary_heap.proofs.shortest_path.Relaxing.{relaxes_kept, relaxes_more}
+use Rattle.dary_heap_uses.specs.Routes.{states}
+use Rattle.dary_heap_uses.proofs.roads.Counting.{raises_more}
+use Rattle.dary_heap_uses.proofs.roads.Lowering.{relaxes_lowered}
+use Rattle.dary_heap_uses.proofs.roads.Waiting.{same_room}
+use Rattle.dary_heap_uses.proofs.roads.relax.Goals.{then-next-found, else-next-found}
+use Rattle.dary_heap_uses.proofs.roads.relax.Goals as goal
+
+pub loop-edge-preserved : goal.loop-edge-preserved
+loop-edge-preserved g c =
+    let none : Edge = record { node = 0; cost = 0 } in
+    let edge = get_or c.deref-edge-items.result.now c.loop-edge.edge-index none in
+    let before = c.loop-edge.invariant in
+    let found = c.loop-edge.found in
+    let inside : edge.node < length found = omega (arith, (rw (← c.deref-edge-items.ensures.value) at c.requires.within) c.loop-edge.edge-index none c.loop-edge-test.true, c.loop-edge.auto.found) in
+    let read : get_or found edge.node 0 ≡ get_or found edge.node 18446744073709551615 = get_or_default found edge.node 0 18446744073709551615 inside in
+    rw (take_more c.deref-edge-items.result.now c.loop-edge.edge-index none c.loop-edge-test.true) (elim c.if-next-found.branch [
+      | then-next-found w ↦
+          let done = w.wait_at.ensures in
+          rw (w.found-is, w.heap-is) record {
+            ready = done.ready;
+            room = same_room before.room done.room;
+            lowers = relaxes_more before.lowers (rw done.found
+                (relaxes_lowered edge found (omega arith) inside c.loop-edge.heap w.wait_at.new.heap before.ready (omega (arith, read, w.if-next-found.true)) done.waits
+                (rw done.found at done.ready)));
+            counted = raises_more g.row.D _ _ before.counted (rw before.lowers.same at done.counted);
+          }
+      | else-next-found w ↦ rw (w.found-is, w.heap-is) record {
+        ready = before.ready;
+        room = before.room;
+        lowers = relaxes_more before.lowers (relaxes_kept edge found (states c.loop-edge.heap.entries) (omega arith) inside _ (get_or_default found edge.node 0 _ inside) w.if-next-found.false);
+        counted = record { rises = before.counted.rises; within = omega (arith, before.counted.within) };
+      }
+    ])

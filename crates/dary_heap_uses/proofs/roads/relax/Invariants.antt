@@ -1,0 +1,11 @@
+use Rattle.dary_heap.proofs.Common.{length, take, RisesWithin}
+use Rattle.dary_heap_uses.specs.Routes.{HasSameRoom, IsReady, Lowers, raises_bound}
+use Rattle.dary_heap_uses.proofs.roads.relax.Given as goal
+
+abbrev pub invariant-loop-edge : goal.invariant-loop-edge
+invariant-loop-edge g l = record {
+  ready : IsReady 18446744073709551615 l.found l.heap;
+  room : HasSameRoom l.initial.heap l.heap;
+  lowers : Lowers 18446744073709551615 l.cost (take l.edge-index l.edge-items) l.initial.found l.initial.heap.entries l.found l.heap.entries;
+  counted : RisesWithin l.initial.heap.comparisons l.heap.comparisons (raises_bound g.row.D (length l.initial.found) l.edge-index);
+}

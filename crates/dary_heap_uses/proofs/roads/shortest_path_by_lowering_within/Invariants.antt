@@ -1,0 +1,16 @@
+use Rattle.dary_heap.proofs.Common.{◌+◌, length, sum}
+use Rattle.dary_heap.proofs.shortest_path.Searching.{IsSearch}
+use Rattle.dary_heap_uses.specs.Routes.{HasSameRoom, IsReady, states}
+use Rattle.dary_heap_uses.proofs.roads.Counting.{IsCounted}
+use Rattle.dary_heap_uses.proofs.roads.shortest_path_by_lowering_within.Given as goal
+
+abbrev pub invariant-loop-node : goal.invariant-loop-node
+invariant-loop-node g l = record {
+  search : IsSearch 18446744073709551615 l.adj_list.items l.start l.goal l.found (states l.heap.entries);
+  ready : IsReady 18446744073709551615 l.found l.heap;
+  room : HasSameRoom l.fn.heap l.heap;
+  counted : IsCounted g.row.D l.fn.heap.comparisons 18446744073709551615 l.adj_list.items l.found l.heap;
+}
+
+abbrev pub decreases-loop-node : goal.decreases-loop-node
+decreases-loop-node g l = sum l.found + length l.heap.entries

@@ -1,0 +1,31 @@
+use Rattle.dary_heap.proofs.Common.{inl, inr, sym, arith, true≢false}
+use Rattle.dary_heap.proofs.Depth.{depth-later}
+use Rattle.dary_heap_uses.proofs.roads.Waiting.{all_few, has_room, raised, stays_ready}
+use Rattle.dary_heap_uses.proofs.roads.wait_at.Goals as goal
+
+pub unreachable-requires : goal.unreachable-requires
+unreachable-requires g c = elim (has_room c.requires.ready c.args.node c.requires.within) [
+  | inl there ↦ true≢false (sym (c.in_default.ensures.present there.0 there.1))
+  | inr room ↦ true≢false (sym (c.in_default.ensures.succeeds room (omega (arith, c.requires.within, c.requires.ready.keyed))))
+]
+
+pub returns-clause-ready : goal.returns-clause-ready
+returns-clause-ready g c =
+    let done = c.in-Ok.ensures in
+    stays_ready c.requires.ready c.requires.within (raised c.requires.ready c.requires.lower c.in-Ok.field-0 done.raised done.reached) done.sound.distinct done.capacity done.keys
+
+pub returns-clause-room : goal.returns-clause-room
+returns-clause-room g c =
+    let done = c.in-Ok.ensures in
+    record {
+      capacity = elim (has_room c.requires.ready c.args.node c.requires.within) [
+        | inl there ↦ done.roomy there.0 there.1
+        | inr room ↦ done.kept room
+      ];
+      keys = done.keyed (omega (arith, c.requires.within, c.requires.ready.keyed));
+    }
+
+pub returns-clause-counted : goal.returns-clause-counted
+returns-clause-counted g c =
+    let done = c.in-Ok.ensures.counted in
+    record { rises = done.rises; within = omega (arith, done.within, depth-later g.row.D _ _ (all_few c.requires.ready)) }

@@ -1,0 +1,125 @@
+//! Calls that give a key an item.
+ghost use Rattle.std.specs.Prelude.{◌≡◌, ℕ, ◌+◌, ◌<◌, ◌≤◌, ◌⊎◌, length, IfOk, IfErr, OnErr, OnOk, IsOk};
+ghost use Rattle.std.specs.Bool.{OnTrue, OnFalse};
+ghost use Rattle.dary_heap.specs.Bounds.{RisesWithin, push_bound};
+ghost use Rattle.indexed_heap.specs.Entries.{AreSound, Gets, InsertsWithin, IsAbsent, IsEntry, IsReached, Raises, by_item, item_of};
+
+use super::IndexedHeap;
+use crate::judge::ByItem;
+use crate::table::{raise, set};
+use dary_heap::sift::Judge;
+
+impl<T, const D: usize, J: Judge<T>> IndexedHeap<T, D, J> {
+    /// Gives a key an item. Returns the item that the key had, or `None` if it had none.
+    ///
+    /// No other entry changes. For a key without an item the call takes at most as many comparisons as the new place
+    /// is deep. Otherwise it takes at most as many as the place of the key's entry is deep, and `D` for each level from
+    /// there down to that of the last place. Both are *O*(log *n*) from arity 2 on.
+    ///
+    /// # Errors
+    ///
+    /// Returns the item if memory allocation fails, or if the key is `usize::MAX`. The entries are then as they were,
+    /// and there is as much room or more. This happens only if the key has no item, and the length has reached the
+    /// [`capacity`](IndexedHeap::capacity) or the key [`keys`](IndexedHeap::keys).
+    ///
+    /// # Examples
+    ///
+    /// ```
+    /// use indexed_heap::IndexedHeap;
+    /// let mut heap = IndexedHeap::<_, 4>::new(alloc);
+    /// assert_eq!(rt; heap.insert(8, 10), Ok(None));
+    /// assert_eq!(rt; heap.insert(8, 3), Ok(Some(10)));
+    /// assert_eq!(rt; heap.get(8), Some(&3));
+    /// assert_eq!(rt; heap.insert(usize::MAX, 5), Err(5));
+    /// ```
+    pub fn insert(&mut self, key: usize, item: T) -> Result<Option<T>, T>
+        ensures gets { IfOk result (λ given. Gets key item self.old.entries given self.new.entries) }
+        ensures given { IfOk result (λ given. given ≡ item_of key self.old.entries) }
+        ensures counted { OnOk result (InsertsWithin D key self.old.entries self.old.comparisons
+            self.new.comparisons) }
+        ensures sound { AreSound J.order D self.new.entries }
+        ensures capacity { self.old.capacity ≤ self.new.capacity }
+        ensures keys { self.old.keys ≤ self.new.keys }
+        ensures kept { length self.old.entries < self.old.capacity
+            → self.new.capacity ≡ self.old.capacity }
+        ensures keyed { key < self.old.keys → self.new.keys ≡ self.old.keys }
+
+        // It can't fail if there is room, or the key has an item.
+        ensures succeeds { length self.old.entries < self.old.capacity → key < self.old.keys
+            → IsOk result }
+        ensures present { (at : ℕ) → IsEntry self.old.entries at key → IsOk result }
+        ensures roomy { (at : ℕ) → IsEntry self.old.entries at key
+            → self.new.capacity ≡ self.old.capacity }
+        ensures full { OnErr result (IsAbsent key self.old.entries
+            × ((length self.old.entries ≡ self.old.capacity) ⊎ (self.old.keys ≤ key))) }
+        ensures returned { IfErr result (λ back. back ≡ item) }
+        ensures unchanged { OnErr result (self.new.entries ≡ self.old.entries) }
+        ensures uncounted { OnErr result (self.new.comparisons ≡ self.old.comparisons) }
+    {
+        set::<T, ByItem<J>, D>(
+            &mut self.slots,
+            &mut self.places,
+            key,
+            item,
+            &mut self.judge,
+        )
+    }
+
+    /// Gives a key an item, unless it has one that is at least as great. Returns `true` if the key has the new item.
+    ///
+    /// If items come out least first, this lowers what a key has, as a search for shortest paths does. The call takes
+    /// at most one comparison more than an [`insert`](IndexedHeap::insert) of a key without an item. If it returns
+    /// `false`, the new item is dropped, and nothing changes but the count.
+    ///
+    /// # Errors
+    ///
+    /// As [`insert`](IndexedHeap::insert).
+    ///
+    /// # Examples
+    ///
+    /// ```
+    /// use indexed_heap::IndexedHeap;
+    /// use std::cmp::Reverse;
+    /// let mut costs = IndexedHeap::<_, 4>::new(alloc);
+    /// assert_eq!(rt; costs.raise(8, Reverse(10)), Ok(true));
+    /// assert_eq!(rt; costs.raise(8, Reverse(12)), Ok(false));
+    /// assert_eq!(rt; costs.raise(8, Reverse(4)), Ok(true));
+    /// assert_eq!(rt; costs.pop(), Some((8, Reverse(4))));
+    /// ```
+    pub fn raise(&mut self, key: usize, item: T) -> Result<bool, T>
+    where
+        T: Drop,
+        ensures raised { IfOk result (λ b. OnTrue b
+            (Raises (by_item J.order) key item self.old.entries self.new.entries)) }
+        ensures reached { IfOk result (λ b. OnFalse b (IsReached (by_item J.order) key item self.old.entries
+            × (self.new.entries ≡ self.old.entries))) }
+        ensures counted { OnOk result (RisesWithin self.old.comparisons self.new.comparisons
+            (push_bound D (length self.old.entries) + 1)) }
+        ensures sound { AreSound J.order D self.new.entries }
+        ensures capacity { self.old.capacity ≤ self.new.capacity }
+        ensures keys { self.old.keys ≤ self.new.keys }
+        ensures kept { length self.old.entries < self.old.capacity
+            → self.new.capacity ≡ self.old.capacity }
+        ensures keyed { key < self.old.keys → self.new.keys ≡ self.old.keys }
+
+        // It can't fail if there is room, or the key has an item.
+        ensures succeeds { length self.old.entries < self.old.capacity → key < self.old.keys
+            → IsOk result }
+        ensures present { (at : ℕ) → IsEntry self.old.entries at key → IsOk result }
+        ensures roomy { (at : ℕ) → IsEntry self.old.entries at key
+            → self.new.capacity ≡ self.old.capacity }
+        ensures full { OnErr result (IsAbsent key self.old.entries
+            × ((length self.old.entries ≡ self.old.capacity) ⊎ (self.old.keys ≤ key))) }
+        ensures returned { IfErr result (λ back. back ≡ item) }
+        ensures unchanged { OnErr result (self.new.entries ≡ self.old.entries) }
+        ensures uncounted { OnErr result (self.new.comparisons ≡ self.old.comparisons) }
+    {
+        raise::<T, ByItem<J>, D>(
+            &mut self.slots,
+            &mut self.places,
+            key,
+            item,
+            &mut self.judge,
+        )
+    }
+}
