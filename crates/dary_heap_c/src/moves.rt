@@ -13,7 +13,7 @@ ghost use Rattle.indexed_heap.specs.Places.{SinksWithin};
 ghost use Rattle.dary_heap_c.specs.Places.{Follow, Rights};
 
 use crate::entry::Entry;
-use dary_heap::sift::Judge;
+use dary_heap::sift::{Judge, parent};
 use indexed_heap::choice::greatest_child;
 
 /// Writes where the entry with a value is, if the value has a place.
@@ -54,7 +54,7 @@ fn sift_up<J: Judge<Entry>, const D: usize>(
 {
     let mut at = place;
     while 0 < at {
-        let parent = (at - 1) / D.max(1);
+        let parent = parent::<D>(at);
         if judge.at_most(&entries[at], &entries[parent]) {
             return;
         }
@@ -105,7 +105,7 @@ fn sift<J: Judge<Entry>, const D: usize>(
     if place == 0 {
         return sift_down::<J, D>(entries, places, place, judge);
     }
-    let parent = (place - 1) / D.max(1);
+    let parent = parent::<D>(place);
     if !judge.at_most(&entries[place], &entries[parent]) {
         exchange(entries, places, place, parent);
         return sift_up::<J, D>(entries, places, parent, judge);

@@ -1,7 +1,7 @@
 //! A call of each public function of `indexed_heap`, at concrete types.
 use crate::Tested;
 use dary_heap::sift::{ByOrd, LeastFirst, Tally};
-use indexed_heap::IndexedHeap;
+use indexed_heap::{IndexedHeap, Iter};
 use std::default::MadeWith;
 use std::mem;
 
@@ -54,16 +54,17 @@ fn entries_are_iterated_and_copied(rt: HostRuntime) -> Tested {
     for (key, item) in [(1, 40), (4, 20), (2, 30)] {
         assert_eq!(rt; heap.insert(key, item), Ok(None));
     }
-    let mut sorted = heap.clone()?.into_iter_sorted();
+    let mut sorted = heap.clone()?.into_iter_sorted().clone()?;
     assert_eq!(rt;
         (sorted.next(), sorted.next()),
         (Some((1, 40)), Some((2, 30)))
     );
-    let mut entries = heap.clone()?.into_iter();
+    let mut entries = heap.clone()?.into_iter().clone()?;
     assert_eq!(rt;
         (entries.next(), entries.next_back()),
         (Some((1, 40)), Some((2, 30)))
     );
+    assert_eq!(rt; Iter::<u32>::default().next(), None);
     let mut shown = heap.iter();
     assert_eq!(rt;
         (shown.next(), shown.next_back()),
@@ -75,5 +76,23 @@ fn entries_are_iterated_and_copied(rt: HostRuntime) -> Tested {
     assert_eq!(rt; mem::try_take(&mut heap)?.pop(), Some((4, 7)));
     let made = IndexedHeap::<u32, 3>::made_with(rt.alloc());
     assert_eq!(rt; (made.len(), heap.len()), (0, 0));
+    Ok(())
+}
+
+#[test]
+fn a_heap_is_copied_by_its_judge_and_gives_room_back(rt: HostRuntime) -> Tested {
+    let mut heap = IndexedHeap::<u32, 4, _>::with_judge(rt.alloc(), LeastFirst(ByOrd::new()));
+    heap.reserve(20, 50)?;
+    for (key, item) in [(1, 40), (9, 10), (4, 20)] {
+        assert_eq!(rt; heap.insert(key, item), Ok(None));
+    }
+    let mut copy = heap.clone()?;
+    assert_eq!(rt; copy.pop(), Some((9, 10)));
+    let mut sorted = copy.into_iter_sorted().clone()?;
+    assert_eq!(rt; (sorted.next(), sorted.len()), (Some((4, 20)), 1));
+    heap.shrink_to(10, 30)?;
+    assert_eq!(rt; (heap.capacity(), heap.keys()), (10, 30));
+    heap.shrink_to_fit()?;
+    assert_eq!(rt; (heap.capacity(), heap.keys()), (3, 10));
     Ok(())
 }

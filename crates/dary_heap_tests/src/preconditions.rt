@@ -6,13 +6,21 @@ ghost use Rattle.std.specs.Ordering.{int_cmp};
 use crate::{Host, Tested};
 use dary_heap::run::{Command, run};
 use dary_heap::sift::{
-    Judge, Tally, build_with, fix_with, mend_with, pop_to_end_with, pop_with, push_with,
+    Judge, Tally, build_with, fix_with, mend_with, parent, pop_to_end_with, pop_with, push_with,
     remove_with,
 };
 use dary_heap::{BinaryHeap, OctonaryHeap, TernaryHeap};
 use dary_heap_uses::greatest::greatest;
 use std::alloc::AllocError;
 use std::cmp::Reverse;
+
+// Each place but the first has a parent.
+#[test]
+fn places_have_parents(rt: HostRuntime) {
+    assert_eq!(rt; parent::<0>(2), 1);
+    assert_eq!(rt; parent::<2>(6), 2);
+    assert_eq!(rt; parent::<4>(8), 1);
+}
 
 // What `into_vec` gives is in heap order at the same arity, as `from_raw_vec` needs it, and the iterators end.
 #[test]

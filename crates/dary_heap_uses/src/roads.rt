@@ -96,17 +96,12 @@ pub fn shortest_path_by_lowering(
         (λ refusal. refusal ≡ CostTooLarge → HasCritical usize.MAX adj_list.now.items start goal) }
 {
     let nodes = adj_list.len();
-    let Ok(mut found) = vec![in alloc; usize::MAX; nodes] else {
-        return Err(PathRefusal::NoMemory);
-    };
+    let mut found = vec![in alloc; usize::MAX; nodes].map_err(|_| PathRefusal::NoMemory)?;
     let mut heap = CostHeap::<4>::with_judge(alloc, LeastFirst(ByOrd::new()));
-    let Ok(()) = heap.reserve(nodes, nodes) else {
-        return Err(PathRefusal::NoMemory);
-    };
-    match shortest_path_by_lowering_within(adj_list, start, goal, &mut found, &mut heap) {
-        Ok(answer) => Ok(answer),
-        Err(TooLarge) => Err(PathRefusal::CostTooLarge),
-    }
+    heap.reserve(nodes, nodes)
+        .map_err(|_| PathRefusal::NoMemory)?;
+    let searched = shortest_path_by_lowering_within(adj_list, start, goal, &mut found, &mut heap);
+    searched.map_err(|_| PathRefusal::CostTooLarge)
 }
 
 /// The same search in memory that the caller has allocated: `found` has a number for each node, and `heap` has room for

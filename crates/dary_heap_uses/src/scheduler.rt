@@ -1,10 +1,10 @@
 //! A scheduler: jobs with ids wait at a priority, which may change, until they are taken out or cancelled. A heap
 //! doesn't say which of two equal items comes out first. So each job has a turn, which counts up, beside its priority.
-ghost use Rattle.std.specs.Prelude.{◌≡◌, ◌+◌, ◌<◌, ◌≤◌, ◌⊎◌, ◌↔◌, [], ◌∷◌, All, length, IsOk, IfOk, IfErr, OnOk, OnErr, IsSome, IfSome, IfNone};
+ghost use Rattle.std.specs.Prelude.{◌≡◌, ◌==◌, ◌+◌, ◌<◌, ◌≤◌, ◌⊎◌, ◌↔◌, [], ◌∷◌, All, length, map, IsOk, IfOk, IfErr, OnOk, OnErr, IsSome, IfSome, IfNone};
 ghost use Rattle.std.specs.Bool.{OnTrue, OnFalse};
 ghost use Rattle.dary_heap.specs.Bag.{IsSameBag};
 ghost use Rattle.indexed_heap.specs.Entries.{Gets, IsAbsent, Loses};
-ghost use Rattle.dary_heap_uses.specs.Scheduling.{ComesBefore, HasMoved, IsNumbered, Schedule, submitted};
+ghost use Rattle.dary_heap_uses.specs.Scheduling.{ComesBefore, HasMoved, IsNumbered, Schedule, submitted, turn_of};
 
 use indexed_heap::IndexedHeap;
 use std::alloc::{AllocError, Global};
@@ -40,7 +40,7 @@ pub struct Waiting<J> {
 /// assert!(rt; scheduler.reprioritise(8, 6));
 /// assert_eq!(rt; scheduler.cancel(9).map(|waiting| waiting.job), Some("cook"));
 /// assert_eq!(rt; scheduler.next().map(|(id, waiting)| (id, waiting.job)), Some((8, "wash")));
-/// assert_eq!(rt; (scheduler.len(), scheduler.came()), (1, 3));
+/// assert_eq!(rt; (scheduler.len(), scheduler.is_empty(), scheduler.came()), (1, false, 3));
 /// ```
 #[derive(Drop)]
 pub struct Scheduler<J> {
@@ -58,7 +58,7 @@ impl<J> Model for Scheduler<J> {
       ids = s.jobs.keys;
     } };
 
-    ghost invariant = { λ s. IsNumbered s.jobs.entries s.came };
+    ghost invariant = { λ s. IsNumbered (map turn_of s.jobs.entries) s.came };
 }
 
 impl<J> Scheduler<J> {
@@ -83,6 +83,13 @@ impl<J> Scheduler<J> {
         self.jobs.len()
     }
 
+    /// Returns `true` if no job waits.
+    pub fn is_empty(&self) -> bool
+        ensures { result ≡ (length self.now.waiting == 0) }
+    {
+        self.jobs.is_empty()
+    }
+
     /// Returns the number of jobs submitted so far.
     pub fn came(&self) -> u64
         ensures { result ≡ self.now.came }
@@ -98,6 +105,7 @@ impl<J> Scheduler<J> {
         ensures came { self.new.came ≡ self.old.came }
         ensures room { OnOk result (length self.new.waiting + additional ≤ self.new.room) }
         ensures ids { OnOk result (ids ≤ self.new.ids) }
+        ensures grows { (self.old.room ≤ self.new.room) × (self.old.ids ≤ self.new.ids) }
         ensures succeeds { length self.old.waiting + additional ≤ self.old.room
             → ids ≤ self.old.ids → IsOk result }
     {
@@ -119,6 +127,7 @@ impl<J> Scheduler<J> {
         ensures waits { IfOk result (λ before. Gets id (submitted priority self.old.came job)
             self.old.waiting before self.new.waiting) }
         ensures came { OnOk result (self.new.came ≡ self.old.came + 1) }
+        ensures grows { (self.old.room ≤ self.new.room) × (self.old.ids ≤ self.new.ids) }
         ensures kept { length self.old.waiting < self.old.room → self.new.room ≡ self.old.room }
         ensures keyed { id < self.old.ids → self.new.ids ≡ self.old.ids }
         ensures succeeds { length self.old.waiting < self.old.room → id < self.old.ids

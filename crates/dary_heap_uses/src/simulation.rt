@@ -114,8 +114,8 @@ fn make_all<const D: usize>(events: &mut TimerQueue<D>, changes: &[Change]) -> u
         × (slice_get changes.now result ≡ Some change) × Lacks events.old change events.new.set }
     ensures grows { (events.old.room ≤ events.new.room) × (events.old.names ≤ events.new.names) }
 {
-    for made in 0..changes.len() {
-        if !make(events, changes[made]) {
+    for (made, change) in changes.iter().enumerate() {
+        if !make(events, *change) {
             return made;
         }
     }

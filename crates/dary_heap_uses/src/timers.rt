@@ -1,6 +1,6 @@
 //! A timer queue: timers with names are set for moments, set again, cancelled, and taken out once they are due. A
 //! clause sees a queue as the `Timers` of `specs/Timers.antt`.
-ghost use Rattle.std.specs.Prelude.{◌≡◌, ℕ, ◌+◌, ◌-◌, ◌<◌, ◌≤◌, ◌⊎◌, [], ◌∷◌, All, length, map, vec_len, vec_capacity, IfSome, IfNone, IfOk, OnOk, OnErr, IsOk};
+ghost use Rattle.std.specs.Prelude.{◌≡◌, ◌==◌, ℕ, ◌+◌, ◌-◌, ◌<◌, ◌≤◌, ◌⊎◌, [], ◌∷◌, All, length, map, vec_len, vec_capacity, IfSome, IfNone, IfOk, OnOk, OnErr, IsOk};
 ghost use Rattle.dary_heap.specs.Bag.{IsSameBag};
 ghost use Rattle.dary_heap.specs.Bounds.{RisesWithin, pop_bound, pops_bound};
 ghost use Rattle.indexed_heap.specs.Entries.{AreDistinct, Gets, InsertsWithin, IsAbsent, IsEntry, Loses, item_of};
@@ -31,7 +31,7 @@ use std::marker::Model;
 /// queue.take_due(4, &mut due)?;
 /// assert_eq!(rt; due.as_slice(), [(3, 4)].as_slice());
 /// assert_eq!(rt; queue.take_next(4), None);
-/// assert_eq!(rt; queue.take_next(5), Some((1, 5)));
+/// assert_eq!(rt; (queue.take_next(5), queue.is_empty()), (Some((1, 5)), true));
 /// ```
 #[derive(Drop)]
 pub struct TimerQueue<const D: usize> {
@@ -74,6 +74,13 @@ impl<const D: usize> TimerQueue<D> {
         ensures once { AreDistinct self.now.set }
     {
         self.waiting.len()
+    }
+
+    /// Returns `true` if no timer is set.
+    pub fn is_empty(&self) -> bool
+        ensures { result ≡ (length self.now.set == 0) }
+    {
+        self.waiting.is_empty()
     }
 
     /// Returns the moment for which the timer of a name is set, or `None` if there is none.

@@ -9,4 +9,5 @@ pub mod Callers
 pub mod Reading
 pub mod Iterating
 pub mod Copying
+pub mod Keys
 pub mod Mapping

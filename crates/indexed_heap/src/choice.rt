@@ -3,11 +3,10 @@
 //! The greatest item so far is held by reference beside its place, so that no comparison has to look it up again.
 ghost use Rattle.std.specs.Prelude.{◌≡◌, ℕ, List, ◌+◌, ◌-◌, ◌*◌, ◌<◌, ◌≤◌, length, IfSome, IfNone};
 ghost use Rattle.std.specs.declared.cmp.Ordering.{Ordering};
-ghost use Rattle.dary_heap.specs.sift.Choosing.{IsGreatestAt};
-ghost use Rattle.dary_heap.specs.HeapOrder.{arity as arity_of, IsLastGreatestChild};
+ghost use Rattle.dary_heap.specs.sift.Choosing.{Chooses, IsGreatestAt};
+ghost use Rattle.dary_heap.specs.HeapOrder.{arity, IsLastGreatestChild};
 ghost use Rattle.dary_heap.specs.sift.Sifting.{children};
 
-use crate::tree::arity;
 use dary_heap::sift::Judge;
 
 /// Returns the item at a place with the place.
@@ -34,6 +33,16 @@ fn greater_of<'a, T, J: Judge<T>>(
     ensures counted { J.count judge.new ≡ J.count judge.old + 1 }
 {
     if judge.at_most(a.1, b.1) { b } else { a }
+}
+
+/// Returns the place of the last greatest of two items. It adds, since the compiler would make a branch of a choice.
+#[inline(always)]
+fn place_of_two<T, J: Judge<T>>(items: &[T], first: usize, judge: &mut J) -> usize
+    requires { first + 2 ≤ length items.now }
+    ensures { Chooses J.order first (first + 2) result items.now (J.count judge.old)
+        (J.count judge.new) }
+{
+    first + judge.at_most(&items[first], &items[first + 1]) as usize
 }
 
 /// Returns the last greatest of two items with its place.
@@ -102,24 +111,22 @@ fn last_greatest<'a, T, J: Judge<T>>(
     best
 }
 
-/// Returns the last greatest of the `count` items from `first` on with its place.
+/// Returns the place of the last greatest item of a whole row of children, which begins at `first`.
 #[inline(always)]
-fn greatest_of_row<'a, T, J: Judge<T>>(
-    items: &'a [T],
+fn greatest_of_row<T, J: Judge<T>, const D: usize>(
+    items: &[T],
     first: usize,
-    count: usize,
     judge: &mut J,
-) -> (usize, &'a T)
-    requires some { 0 < count }
-    requires within { first + count ≤ length items.now }
-    ensures chosen { IsGreatestAt J.order first (first + count) result.0 result.1.now items.now }
-    ensures counted { J.count judge.new + 1 ≡ J.count judge.old + count }
+) -> usize
+    requires { first + arity D ≤ length items.now }
+    ensures { Chooses J.order first (first + arity D) result items.now (J.count judge.old)
+        (J.count judge.new) }
 {
-    match count {
-        2 => greatest_of_two(items, first, judge),
-        4 => greatest_of_four(items, first, judge),
-        8 => greatest_of_eight(items, first, judge),
-        _ => last_greatest(items, first, first + count, judge),
+    match D {
+        2 => place_of_two(items, first, judge),
+        4 => greatest_of_four(items, first, judge).0,
+        8 => greatest_of_eight(items, first, judge).0,
+        _ => last_greatest(items, first, first + D.max(1), judge).0,
     }
 }
 
@@ -141,6 +148,7 @@ fn greatest_of_row<'a, T, J: Judge<T>>(
 /// assert_eq!(rt; greatest_child::<_, _, 2>(&items, 0, &mut ByOrd::new()), Some(2));
 /// assert_eq!(rt; greatest_child::<_, _, 2>(&items, 2, &mut ByOrd::new()), None);
 /// ```
+#[inline]
 pub fn greatest_child<T, J: Judge<T>, const D: usize>(
     items: &[T],
     at: usize,
@@ -150,18 +158,22 @@ pub fn greatest_child<T, J: Judge<T>, const D: usize>(
     ensures greatest { IfSome result (λ c. IsLastGreatestChild J.order D at c items.now) }
     ensures counted { IfSome result (λ c. J.count judge.new + 1
         ≡ J.count judge.old + children D (length items.now - 1) at) }
-    ensures leaf { IfNone result (length items.now ≤ at * arity_of D + 1) }
+    ensures leaf { IfNone result (length items.now ≤ at * arity D + 1) }
     ensures uncounted { IfNone result (J.count judge.new ≡ J.count judge.old) }
 {
-    let arity = arity::<D>();
+    let arity = D.max(1);
     let len = items.len();
-    if (len - 1) / arity < at {
+    // Each place before this one has a whole row of children. This one has what is left, if anything.
+    let whole = (len - 1) / arity;
+    if whole < at {
         return None;
     }
     let first = at * arity + 1;
-    let count = arity.min(len - first);
-    if count == 0 {
+    if at < whole {
+        return Some(greatest_of_row::<T, J, D>(items, first, judge));
+    }
+    if len <= first {
         return None;
     }
-    Some(greatest_of_row(items, first, count, judge).0)
+    Some(last_greatest(items, first, len, judge).0)
 }

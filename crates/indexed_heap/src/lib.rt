@@ -32,6 +32,7 @@
 //! | [`raise`](IndexedHeap::raise) | one more than the depth of a new place |
 //! | [`pop`](IndexedHeap::pop), [`pop_if`](IndexedHeap::pop_if), [`remove`](IndexedHeap::remove) | `D` times the depth of the last place that remains: *O*(log *n*) |
 //! | an item of [`into_iter_sorted`](IndexedHeap::into_iter_sorted) | as `pop` |
+//! | `clone` of the trait `Clone`, for another judge than `ByOrd` | `2 * (n - 1)` |
 //! | [`get`](IndexedHeap::get), [`peek`](IndexedHeap::peek), [`iter`](IndexedHeap::iter), [`drain`](IndexedHeap::drain), [`clone`](IndexedHeap::clone), [`reserve`](IndexedHeap::reserve) and the heap's other methods | none |
 //!
 //! # Modules
@@ -47,7 +48,6 @@ pub mod iter;
 mod judge;
 mod moves;
 mod table;
-mod tree;
 
 pub use heap::IndexedHeap;
 pub use iter::{Drain, IntoIter, IntoIterSorted, Iter};

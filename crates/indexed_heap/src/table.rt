@@ -8,7 +8,7 @@ ghost use Rattle.dary_heap.specs.HeapOrder.{IsHeapOrdered, depth};
 ghost use Rattle.indexed_heap.specs.Entries.{Gets, InsertsWithin, IsAbsent, IsEntry, IsReached, Loses, Raises};
 ghost use Rattle.indexed_heap.specs.Places.{AreRight};
 
-use crate::moves::{fix, sift_up};
+use crate::moves::{fix, sift_down_to_bottom, sift_up};
 use dary_heap::sift::Judge;
 use std::alloc::AllocError;
 use std::mem;
@@ -20,43 +20,12 @@ pub(crate) fn place_of<T>(slots: &[(usize, T)], places: &[usize], key: usize) ->
     ensures found { IfSome result (λ at. IsEntry slots.now at key) }
     ensures none { IfNone result (IsAbsent key slots.now) }
 {
-    if places.len() <= key {
-        return None;
+    let at = *places.get(key)?;
+    if slots.get(at)?.0 == key {
+        Some(at)
+    } else {
+        None
     }
-    let at = places[key];
-    if slots.len() <= at {
-        return None;
-    }
-    if slots[at].0 != key {
-        return None;
-    }
-    Some(at)
-}
-
-/// Reserves room for one more slot and for the place of a key. Returns `false` if memory allocation fails, or if the
-/// key is `usize::MAX`.
-fn make_room<T>(slots: &mut Vec<(usize, T)>, places: &mut Vec<usize>, key: usize) -> bool
-    requires { AreRight slots.old.items places.old.items }
-    ensures slots { slots.new.items ≡ slots.old.items }
-    ensures right { AreRight slots.new.items places.new.items }
-    ensures capacity { vec_capacity slots.old ≤ vec_capacity slots.new }
-    ensures keys { vec_len places.old ≤ vec_len places.new }
-    ensures kept { vec_len slots.old < vec_capacity slots.old
-        → vec_capacity slots.new ≡ vec_capacity slots.old }
-    ensures keyed { key < vec_len places.old → vec_len places.new ≡ vec_len places.old }
-    ensures succeeds { vec_len slots.old < vec_capacity slots.old → key < vec_len places.old
-        → result ≡ true }
-    ensures full { result ≡ false
-        → (vec_len slots.old ≡ vec_capacity slots.old) ⊎ (vec_len places.old ≤ key) }
-    ensures room { result ≡ true → (vec_len slots.new < vec_capacity slots.new) × (key < vec_len places.new) }
-{
-    if slots.len() == slots.capacity() && slots.reserve(1).is_err() {
-        return false;
-    }
-    if key < places.len() {
-        return true;
-    }
-    key < usize::MAX && places.resize(key + 1, 0).is_ok()
 }
 
 /// Makes room for `additional` more slots, unless there is that much already.
@@ -116,6 +85,32 @@ pub(crate) fn reserve<T>(
     widen(places, keys)
 }
 
+/// Reserves room for one more slot and for the place of a key. Fails if memory allocation fails, or if the key is
+/// `usize::MAX`.
+fn make_room<T>(
+    slots: &mut Vec<(usize, T)>,
+    places: &mut Vec<usize>,
+    key: usize,
+) -> Result<(), AllocError>
+    requires { AreRight slots.old.items places.old.items }
+    ensures slots { slots.new.items ≡ slots.old.items }
+    ensures right { AreRight slots.new.items places.new.items }
+    ensures capacity { vec_capacity slots.old ≤ vec_capacity slots.new }
+    ensures keys { vec_len places.old ≤ vec_len places.new }
+    ensures kept { vec_len slots.old < vec_capacity slots.old
+        → vec_capacity slots.new ≡ vec_capacity slots.old }
+    ensures keyed { key < vec_len places.old → vec_len places.new ≡ vec_len places.old }
+    ensures succeeds { vec_len slots.old < vec_capacity slots.old → key < vec_len places.old
+        → IsOk result }
+    ensures full { OnErr result
+        ((vec_len slots.old ≡ vec_capacity slots.old) ⊎ (vec_len places.old ≤ key)) }
+    ensures room { OnOk result ((vec_len slots.new < vec_capacity slots.new)
+        × (key < vec_len places.new)) }
+{
+    let keys = key.checked_add(1).ok_or(AllocError)?;
+    reserve(slots, places, 1, keys)
+}
+
 /// Adds a slot for a key that has none.
 pub(crate) fn add<T, J: Judge<(usize, T)>, const D: usize>(
     slots: &mut Vec<(usize, T)>,
@@ -145,7 +140,7 @@ pub(crate) fn add<T, J: Judge<(usize, T)>, const D: usize>(
     ensures unchanged { OnErr result (slots.new.items ≡ slots.old.items) }
     ensures uncounted { OnErr result (judge.new ≡ judge.old) }
 {
-    if !make_room(slots, places, key) {
+    if make_room(slots, places, key).is_err() {
         return Err(item);
     }
     let place = slots.len();
@@ -197,9 +192,14 @@ pub(crate) fn take_out<T, J: Judge<(usize, T)>, const D: usize>(
     ensures capacity { vec_capacity slots.new ≡ vec_capacity slots.old }
 {
     let slot = slots.swap_remove(at);
-    if at < slots.len() {
-        fix::<T, J, D>(slots.as_mut_slice(), places, at, judge);
+    if slots.len() <= at {
+        return slot;
     }
+    if at == 0 {
+        sift_down_to_bottom::<T, J, D>(slots.as_mut_slice(), places, judge);
+        return slot;
+    }
+    fix::<T, J, D>(slots.as_mut_slice(), places, at, judge);
     slot
 }
 
@@ -235,10 +235,8 @@ pub(crate) fn set<T, J: Judge<(usize, T)>, const D: usize>(
     ensures uncounted { OnErr result (judge.new ≡ judge.old) }
 {
     let Some(at) = place_of(slots.as_slice(), places.as_slice(), key) else {
-        return match add::<T, J, D>(slots, places, key, item, judge) {
-            Ok(()) => Ok(None),
-            Err(item) => Err(item),
-        };
+        add::<T, J, D>(slots, places, key, item, judge)?;
+        return Ok(None);
     };
     Ok(Some(change::<T, J, D>(slots.as_mut_slice(), places.as_mut_slice(), at, item, judge)))
 }
@@ -262,9 +260,7 @@ pub(crate) fn unset<T, J: Judge<(usize, T)>, const D: usize>(
     ensures unchanged { IfNone result (slots.new ≡ slots.old) }
     ensures uncounted { IfNone result (judge.new ≡ judge.old) }
 {
-    let Some(at) = place_of(slots.as_slice(), places, key) else {
-        return None;
-    };
+    let at = place_of(slots.as_slice(), places, key)?;
     let (_, item) = take_out::<T, J, D>(slots, places, at, judge);
     Some(item)
 }
@@ -304,10 +300,8 @@ pub(crate) fn raise<T: Drop, J: Judge<(usize, T)>, const D: usize>(
     ensures uncounted { OnErr result (judge.new ≡ judge.old) }
 {
     let Some(at) = place_of(slots.as_slice(), places.as_slice(), key) else {
-        return match add::<T, J, D>(slots, places, key, item, judge) {
-            Ok(()) => Ok(true),
-            Err(item) => Err(item),
-        };
+        add::<T, J, D>(slots, places, key, item, judge)?;
+        return Ok(true);
     };
     Ok(lift::<T, J, D>(
         slots.as_mut_slice(),

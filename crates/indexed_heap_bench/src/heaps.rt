@@ -1,36 +1,7 @@
 //! The calls of a heap that the workloads make, so that each workload is one source over every heap.
 use dary_heap::DaryHeap;
-use dary_heap::sift::{ByOrd, Judge, Tally};
 use indexed_heap::IndexedHeap;
 use std::alloc::{AllocError, Global};
-
-/// A judge of a new heap.
-pub(crate) trait Fresh: Sized + Drop {
-    fn fresh() -> Self;
-
-    /// How many comparisons it made, or 0 if it doesn't tell.
-    fn made(&self) -> u64;
-}
-
-impl Fresh for ByOrd {
-    fn fresh() -> Self {
-        ByOrd::new()
-    }
-
-    fn made(&self) -> u64 {
-        0
-    }
-}
-
-impl Fresh for Tally {
-    fn fresh() -> Self {
-        Tally::new()
-    }
-
-    fn made(&self) -> u64 {
-        Tally::made(self)
-    }
-}
 
 /// A heap of items with keys, of which the greatest comes out first.
 pub(crate) trait Queue: Sized + Drop {
@@ -48,25 +19,9 @@ pub(crate) trait Keyed: Queue {
     fn cancel(&mut self, key: usize);
 }
 
-/// One for a search, in which items of a key only rise.
-pub(crate) trait Rising: Queue {
-    /// Gives a key an item that is greater than the one that it has.
-    fn raise(&mut self, key: usize, item: u64) -> Result<(), AllocError>;
-
-    /// Whether an item that came out isn't the one that its key has.
-    fn is_stale(item: u64, known: u64) -> bool;
-
-    fn len(&self) -> usize;
-
-    /// How many comparisons were made, or 0 if its judge doesn't tell.
-    fn comparisons(&self) -> u64;
-}
-
-impl<const D: usize, J: Judge<u64> + Fresh> Queue for IndexedHeap<u64, D, J> {
+impl<const D: usize> Queue for IndexedHeap<u64, D> {
     fn with_room(alloc: Global, keys: usize) -> Result<Self, AllocError> {
-        let mut heap = IndexedHeap::with_judge(alloc, J::fresh());
-        heap.reserve(keys, keys)?;
-        Ok(heap)
+        IndexedHeap::with_capacity(alloc, keys, keys)
     }
 
     #[inline]
@@ -83,33 +38,10 @@ impl<const D: usize, J: Judge<u64> + Fresh> Queue for IndexedHeap<u64, D, J> {
     }
 }
 
-impl<const D: usize, J: Judge<u64> + Fresh> Keyed for IndexedHeap<u64, D, J> {
+impl<const D: usize> Keyed for IndexedHeap<u64, D> {
     #[inline]
     fn cancel(&mut self, key: usize) {
         let _ = IndexedHeap::remove(self, key);
-    }
-}
-
-impl<const D: usize, J: Judge<u64> + Fresh> Rising for IndexedHeap<u64, D, J> {
-    #[inline]
-    fn raise(&mut self, key: usize, item: u64) -> Result<(), AllocError> {
-        match IndexedHeap::raise(self, key, item) {
-            Ok(_) => Ok(()),
-            Err(_) => Err(AllocError),
-        }
-    }
-
-    #[inline]
-    fn is_stale(_item: u64, _known: u64) -> bool {
-        false
-    }
-
-    fn len(&self) -> usize {
-        IndexedHeap::len(self)
-    }
-
-    fn comparisons(&self) -> u64 {
-        IndexedHeap::judge(self).made()
     }
 }
 
@@ -123,11 +55,9 @@ pub(crate) struct Entry {
 }
 
 /// It may have several entries of a key.
-impl<const D: usize, J: Judge<Entry> + Fresh> Queue for DaryHeap<Entry, D, J> {
+impl<const D: usize> Queue for DaryHeap<Entry, D> {
     fn with_room(alloc: Global, keys: usize) -> Result<Self, AllocError> {
-        let mut heap = DaryHeap::with_judge(alloc, J::fresh());
-        heap.reserve(keys)?;
-        Ok(heap)
+        DaryHeap::with_capacity(alloc, keys)
     }
 
     #[inline]
@@ -139,26 +69,6 @@ impl<const D: usize, J: Judge<Entry> + Fresh> Queue for DaryHeap<Entry, D, J> {
     fn pop(&mut self) -> Option<(usize, u64)> {
         let Entry { item, key } = DaryHeap::pop(self)?;
         Some((key, item))
-    }
-}
-
-impl<const D: usize, J: Judge<Entry> + Fresh> Rising for DaryHeap<Entry, D, J> {
-    #[inline]
-    fn raise(&mut self, key: usize, item: u64) -> Result<(), AllocError> {
-        self.set(key, item)
-    }
-
-    #[inline]
-    fn is_stale(item: u64, known: u64) -> bool {
-        item != known
-    }
-
-    fn len(&self) -> usize {
-        DaryHeap::len(self)
-    }
-
-    fn comparisons(&self) -> u64 {
-        DaryHeap::judge(self).made()
     }
 }
 

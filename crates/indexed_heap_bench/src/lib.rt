@@ -2,20 +2,26 @@
 //!
 //! A function does the whole of a workload: it makes a heap, works on it, and writes numbers to the front of `out`. So
 //! nothing but numbers, structs of them, pointers and lengths crosses, and no heap outlives a call. It returns how many
-//! numbers it wrote, and `u64::MAX` if it knows no such workload or arity, if what is given doesn't fit the workload,
-//! or if memory allocation fails. No clause says which numbers it writes: the bench compares them.
+//! numbers it wrote, and `u64::MAX` if it knows no such workload or arity, if what is given doesn't fit the workload, or
+//! if memory allocation fails. No clause says which numbers it writes: the bench compares them.
 //!
 //! - [`heaps`] has the calls of a heap that the workloads make, and the heaps that have them.
 //! - [`work`] has the workloads, over any of these heaps.
+//! - [`search`] has the searches, and [`counting`] the same over heaps that count.
 #![tactic(auto)]
 
+mod counting;
 mod heaps;
+mod search;
 mod work;
 
+use crate::counting::count;
 use crate::heaps::{Entry, Stale};
-use crate::work::{CANCEL, Change, REPRIORITISE, search_counted, work_on_changes, work_on_waiting};
+use crate::search::search;
+use crate::work::{CANCEL, COUNT, Change, REPRIORITISE, SEARCH, work_on_changes, work_on_pushed};
 use dary_heap::DaryHeap;
-use dary_heap::sift::Tally;
+use dary_heap::shortest_path::State;
+use dary_heap::sift::{LeastFirst, Tally};
 use indexed_heap::IndexedHeap;
 use std::alloc::Global;
 
@@ -39,15 +45,14 @@ pub extern "C" fn bench_indexed(
     arity: usize,
     items: &[u64],
     changes: &[Change],
-    degree: usize,
+    _degree: usize,
     out: &mut [u64],
 ) -> u64 {
     match call {
         CANCEL | REPRIORITISE => {
             at_arity!(arity, work_on_changes, IndexedHeap<u64>(alloc, call, items, changes, out))
         }
-        _ =>
-            at_arity!(arity, work_on_waiting, IndexedHeap<u64>(alloc, call, items, changes, degree, out)),
+        _ => at_arity!(arity, work_on_pushed, IndexedHeap<u64>(alloc, call, items, out)),
     }
 }
 
@@ -59,43 +64,37 @@ pub extern "C" fn bench_stale(
     arity: usize,
     items: &[u64],
     changes: &[Change],
-    degree: usize,
+    _degree: usize,
     out: &mut [u64],
 ) -> u64 {
     match call {
         CANCEL | REPRIORITISE => {
             at_arity!(arity, work_on_changes, Stale<>(alloc, call, items, changes, out))
         }
-        _ =>
-            at_arity!(arity, work_on_waiting, DaryHeap<Entry>(alloc, call, items, changes, degree, out)),
+        _ => at_arity!(arity, work_on_pushed, DaryHeap<Entry>(alloc, call, items, out)),
     }
 }
 
-/// A search over an `IndexedHeap` that counts. Behind the costs it writes the comparisons, and how many entries there
-/// were at most.
+/// Searches for walks to the goals: by `shortest_path` at arity 3, which is that of its heap, and else by
+/// `shortest_path_by_lowering`.
 #[unsafe(no_mangle)]
-pub extern "C" fn bench_indexed_counted(
+pub extern "C" fn bench_search(
     alloc: Global,
-    _call: usize,
+    call: usize,
     arity: usize,
-    _items: &[u64],
+    goals: &[u64],
     edges: &[Change],
     degree: usize,
     out: &mut [u64],
 ) -> u64 {
-    at_arity!(arity, search_counted, IndexedHeap<u64; Tally>(alloc, edges, degree, out))
-}
-
-/// The same over a `DaryHeap`.
-#[unsafe(no_mangle)]
-pub extern "C" fn bench_stale_counted(
-    alloc: Global,
-    _call: usize,
-    arity: usize,
-    _items: &[u64],
-    edges: &[Change],
-    degree: usize,
-    out: &mut [u64],
-) -> u64 {
-    at_arity!(arity, search_counted, DaryHeap<Entry; Tally>(alloc, edges, degree, out))
+    match (call, arity) {
+        (SEARCH, _) => search(alloc, arity, goals, edges, degree, out).unwrap_or(u64::MAX),
+        (COUNT, 3) => count::<DaryHeap<State, 3, Tally>>(
+            alloc, goals, edges, degree, out,
+        ).unwrap_or(u64::MAX),
+        (COUNT, _) => {
+            at_arity!(arity, count, IndexedHeap<usize; LeastFirst<Tally>>(alloc, goals, edges, degree, out))
+        }
+        _ => u64::MAX,
+    }
 }

@@ -1,6 +1,6 @@
 //! The workloads, over any heap, and their numbers, which are those of `Call` in `bench/src/bin/keyed/workload.rs`.
 //! Each has a function of its own, so that the code of none depends on another's.
-use crate::heaps::{Keyed, Queue, Rising};
+use crate::heaps::{Keyed, Queue};
 use std::alloc::{AllocError, Global};
 
 /// The key that comes out first after each item was pushed, with its place as its key.
@@ -12,8 +12,10 @@ pub(crate) const POP: usize = 1;
 pub(crate) const CANCEL: usize = 2;
 /// The keys that come out, one after `CHANGES` changes. It goes in again with half of the item of the last change.
 pub(crate) const REPRIORITISE: usize = 3;
-/// The least cost of a walk from node 0 to each node, and `u64::MAX` if there is none.
+/// The least cost of a walk from node 0 to each goal, and `u64::MAX` if there is none.
 pub(crate) const SEARCH: usize = 4;
+/// The comparisons of a search for the first goal, and how many entries there were at most.
+pub(crate) const COUNT: usize = 5;
 
 /// How many items change before one comes out.
 const CHANGES: usize = 4;
@@ -43,28 +45,22 @@ pub(crate) fn work_on_changes<Q: Keyed>(
     }
 }
 
-/// Does a workload in which items at most rise.
-pub(crate) fn work_on_waiting<Q: Rising>(
+/// Does a workload in which each item is pushed once.
+pub(crate) fn work_on_pushed<Q: Queue>(
     alloc: Global,
     call: usize,
     items: &[u64],
-    edges: &[Change],
-    degree: usize,
     out: &mut [u64],
 ) -> Result<u64, AllocError> {
     match call {
         PUSH => pop::<Q>(pushed(alloc, items)?, room(out, 1)?),
         POP => pop::<Q>(pushed(alloc, items)?, room(out, items.len())?),
-        SEARCH => {
-            search::<Q, false>(alloc, edges, degree, out)?;
-            Ok(out.len() as u64)
-        }
         _ => Err(AllocError),
     }
 }
 
 /// The first places of `out`. Fails if there are fewer.
-fn room(out: &mut [u64], len: usize) -> Result<&mut [u64], AllocError> {
+pub(crate) fn room(out: &mut [u64], len: usize) -> Result<&mut [u64], AllocError> {
     out.get_mut(..len).ok_or(AllocError)
 }
 
@@ -140,84 +136,4 @@ fn change_all<Q: Queue>(heap: &mut Q, changes: &[Change]) -> Result<u64, AllocEr
         last = change.item;
     }
     Ok(last)
-}
-
-/// Searches, and writes behind the costs the comparisons, and how many entries there were at most.
-pub(crate) fn search_counted<Q: Rising>(
-    alloc: Global,
-    edges: &[Change],
-    degree: usize,
-    out: &mut [u64],
-) -> Result<u64, AllocError> {
-    let nodes = out.len().checked_sub(2).ok_or(AllocError)?;
-    let counts = search::<Q, true>(alloc, edges, degree, room(out, nodes)?)?;
-    for (place, count) in out.iter_mut().skip(nodes).zip(&counts) {
-        *place = *count;
-    }
-    Ok(out.len() as u64)
-}
-
-/// So many edges leave each node, in the order of the nodes. The cheapest node comes out first, so its item is the
-/// complement of its cost. It returns the comparisons, and how many entries there were at most, if that is watched.
-#[inline(never)]
-fn search<Q: Rising, const WATCHED: bool>(
-    alloc: Global,
-    edges: &[Change],
-    degree: usize,
-    costs: &mut [u64],
-) -> Result<[u64; 2], AllocError> {
-    costs.fill(u64::MAX);
-    let mut nodes = Q::with_room(alloc, costs.len())?;
-    let mut most = 0;
-    reach(&mut nodes, 0, 0, costs)?;
-    // A node comes out no more often than an edge leads there at less.
-    for _ in 0..=edges.len() {
-        if WATCHED {
-            most = most.max(nodes.len());
-        }
-        let Some((node, item)) = nodes.pop() else {
-            break;
-        };
-        if !Q::is_stale(!item, *costs.get(node).ok_or(AllocError)?) {
-            walk_on(&mut nodes, !item, edges_of(edges, degree, node)?, costs)?;
-        }
-    }
-    Ok([nodes.comparisons(), most as u64])
-}
-
-#[inline]
-fn edges_of(edges: &[Change], degree: usize, node: usize) -> Result<&[Change], AllocError> {
-    let first = node.wrapping_mul(degree);
-    edges
-        .get(first..first.wrapping_add(degree))
-        .ok_or(AllocError)
-}
-
-#[inline]
-fn walk_on<Q: Rising>(
-    nodes: &mut Q,
-    cost: u64,
-    edges: &[Change],
-    costs: &mut [u64],
-) -> Result<(), AllocError> {
-    for edge in edges {
-        reach(nodes, edge.key, cost.wrapping_add(edge.item), costs)?;
-    }
-    Ok(())
-}
-
-/// A node waits if it is reached at less than was known.
-#[inline]
-fn reach<Q: Rising>(
-    nodes: &mut Q,
-    node: usize,
-    cost: u64,
-    costs: &mut [u64],
-) -> Result<(), AllocError> {
-    let known = costs.get_mut(node).ok_or(AllocError)?;
-    if cost < *known {
-        *known = cost;
-        nodes.raise(node, !cost)?;
-    }
-    Ok(())
 }

@@ -4,13 +4,22 @@
 #[path = "../../memory.rs"]
 mod memory;
 mod pairs;
+#[cfg(all(target_os = "linux", target_env = "gnu"))]
+mod peak;
+#[cfg(not(all(target_os = "linux", target_env = "gnu")))]
+mod peak {
+    /// Memory is measured over glibc alone.
+    pub fn of(_run: impl FnOnce()) -> Option<isize> {
+        None
+    }
+}
 #[path = "../../random.rs"]
 mod random;
 mod rivals;
 mod table;
 mod workload;
 
-use rivals::{rivals, run, Rival};
+use rivals::{rivals, run, Heap, Rival};
 use std::env;
 use std::process::ExitCode;
 use std::time::{Duration, Instant};
@@ -72,11 +81,11 @@ fn main() -> ExitCode {
         return ExitCode::from(2);
     };
     memory::keep_freed();
-    if !rivals::has_boost() {
+    if !Heap::Boost.is_there() {
         println!("left out: boost's heap\n");
     }
     if wanted.counts {
-        println!("{}", table::counts_header());
+        println!("{}", table::COUNTS_HEADER);
         for (workload, keys) in wanted.rows() {
             let task = (workload.task)(&mut random::Random::new(0), keys);
             println!("{}", table::counts_row(workload.name, keys, &task));
@@ -97,14 +106,18 @@ fn main() -> ExitCode {
     status
 }
 
-/// The nanoseconds of each rival. From pops the time of the pushes is taken off.
+/// The nanoseconds of each rival. From pops the time of the pushes is taken off, from searches that of the graph.
 fn measured(workload: &Workload, keys: usize) -> Result<Times, String> {
     let tasks = workload.tasks(keys);
     let mut times = times(workload.call, &tasks)?;
-    if workload.call == Call::Pop {
-        let pushes = self::times(Call::Push, &tasks)?;
-        let pairs = times.into_iter().zip(pushes);
-        let rests = pairs.map(|((rival, time), (_, push))| (rival, rest(time, push)));
+    let set_up = match workload.call {
+        Call::Pop => Some((Call::Push, tasks.clone())),
+        Call::Search => Some((Call::Search, tasks.iter().map(Task::without_goal).collect())),
+        _ => None,
+    };
+    if let Some((call, tasks)) = set_up {
+        let pairs = times.into_iter().zip(self::times(call, &tasks)?);
+        let rests = pairs.map(|((rival, time), (_, less))| (rival, rest(time, less)));
         times = rests
             .filter_map(|(rival, time)| Some((rival, time?)))
             .collect();
@@ -124,10 +137,8 @@ fn rest(time: Duration, less: Duration) -> Option<Duration> {
 /// them.
 fn times(call: Call, tasks: &[Task]) -> Result<Vec<(Rival, Duration)>, String> {
     let wanted: Vec<_> = tasks.iter().map(|task| wanted(call, task)).collect();
-    let mut times: Vec<_> = rivals()
-        .into_iter()
-        .map(|rival| (rival, Duration::MAX))
-        .collect();
+    let there = rivals(call).into_iter().filter(|(heap, _)| heap.is_there());
+    let mut times: Vec<_> = there.map(|rival| (rival, Duration::MAX)).collect();
     let begun = Instant::now();
     let mut round = 0;
     while is_due(round, begun.elapsed()) {
@@ -150,8 +161,7 @@ fn is_due(made: usize, elapsed: Duration) -> bool {
 /// What the set, which refuses nothing, writes.
 fn wanted(call: Call, task: &Task) -> Vec<u64> {
     let mut out = vec![0; task.room];
-    let written = pairs::work(call, task, &mut out);
-    out.truncate(written);
+    pairs::work(call, task, &mut out);
     out
 }
 
@@ -161,13 +171,10 @@ fn time(rival: Rival, call: Call, tasks: &[Task], wanted: &[Vec<u64>]) -> Result
     let mut out = vec![0; tasks[0].room];
     for (task, wanted) in tasks.iter().zip(wanted) {
         out.fill(0);
-        let begun = Instant::now();
-        let written = run(rival, call, task, &mut out);
-        time += begun.elapsed();
-        let name = table::name(rival);
-        let written = written.ok_or_else(|| format!("{name} refused"))?;
-        if out[..written] != wanted[..] {
-            return Err(format!("{name} has another output than the set"));
+        let name = || table::name(rival);
+        time += run(rival, call, task, &mut out).ok_or_else(|| format!("{} refused", name()))?;
+        if out != *wanted {
+            return Err(format!("{} has another output than the set", name()));
         }
     }
     Ok(time)

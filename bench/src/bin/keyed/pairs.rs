@@ -48,28 +48,29 @@ impl Pairs {
     }
 }
 
-/// Does a workload. It returns how many numbers it wrote.
-pub fn work(call: Call, task: &Task, out: &mut [u64]) -> usize {
+/// Does a workload. Returns `u64::MAX` if it should count.
+pub fn work(call: Call, task: &Task, out: &mut [u64]) -> u64 {
     match call {
         Call::Push => pop(Pairs::pushed(&task.items), &mut out[..1]),
         Call::Pop => pop(Pairs::pushed(&task.items), out),
         Call::Cancel => cancel(task, out),
         Call::Reprioritise => reprioritise(task, out),
-        Call::Search => search(&task.changes, task.degree, out),
+        Call::Search => search(task, out),
+        Call::Count => return u64::MAX,
     }
+    0
 }
 
-fn pop(mut pairs: Pairs, out: &mut [u64]) -> usize {
+fn pop(mut pairs: Pairs, out: &mut [u64]) {
     for place in out.iter_mut() {
         let Some((key, _)) = pairs.pop() else {
             break;
         };
         *place = key as u64;
     }
-    out.len()
 }
 
-fn cancel(task: &Task, out: &mut [u64]) -> usize {
+fn cancel(task: &Task, out: &mut [u64]) {
     let mut timers = Pairs::with_room(task.items.len());
     for (key, delay) in task.items.iter().enumerate() {
         timers.set(key, u64::MAX - delay);
@@ -82,14 +83,11 @@ fn cancel(task: &Task, out: &mut [u64]) -> usize {
             timers.set(change.key, now.wrapping_sub(change.item));
         }
     }
-    task.changes.len()
 }
 
-fn reprioritise(task: &Task, out: &mut [u64]) -> usize {
+fn reprioritise(task: &Task, out: &mut [u64]) {
     let mut pairs = Pairs::pushed(&task.items);
-    let rounds = task.changes.chunks(CHANGES);
-    let count = rounds.len();
-    for (place, changes) in out.iter_mut().zip(rounds) {
+    for (place, changes) in out.iter_mut().zip(task.changes.chunks(CHANGES)) {
         let mut last = 0;
         for change in changes {
             pairs.set(change.key, change.item);
@@ -100,16 +98,23 @@ fn reprioritise(task: &Task, out: &mut [u64]) -> usize {
             pairs.set(key, last / 2);
         }
     }
-    count
 }
 
-/// The costs tell what a node has in the set.
-fn search(edges: &[Change], degree: usize, costs: &mut [u64]) -> usize {
-    costs.fill(u64::MAX);
+fn search(task: &Task, out: &mut [u64]) {
+    let graph = task.graph();
+    for (place, goal) in out.iter_mut().zip(&task.items) {
+        let goal = *goal as usize;
+        *place = costs(&graph, goal)[goal];
+    }
+}
+
+/// The least costs of walks from node 0 to the nodes that come out up to the goal. They tell what a node has in the set.
+pub fn costs(graph: &[Vec<Change>], goal: usize) -> Vec<u64> {
+    let mut costs = vec![u64::MAX; graph.len()];
     let mut nodes = BTreeSet::from([(0, 0)]);
     costs[0] = 0;
-    while let Some((cost, node)) = nodes.pop_first() {
-        for edge in &edges[node * degree..][..degree] {
+    while let Some((cost, node)) = nodes.pop_first().filter(|(_, node)| *node != goal) {
+        for edge in &graph[node] {
             let (known, cost) = (&mut costs[edge.key], cost + edge.item);
             if cost < *known {
                 if *known != u64::MAX {
@@ -120,5 +125,5 @@ fn search(edges: &[Change], degree: usize, costs: &mut [u64]) -> usize {
             }
         }
     }
-    costs.len()
+    costs
 }

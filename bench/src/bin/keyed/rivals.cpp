@@ -16,7 +16,7 @@ namespace {
 
 constexpr std::uint64_t REFUSED = UINT64_MAX;
 
-enum Call : std::size_t { PUSH, POP, CANCEL, REPRIORITISE, SEARCH };
+enum Call : std::size_t { PUSH, POP, CANCEL, REPRIORITISE, SEARCH, COUNT };
 
 constexpr std::size_t CHANGES = 4;
 
@@ -32,7 +32,6 @@ struct Given {
     std::size_t changes_len;
     std::size_t degree;
     std::uint64_t *out;
-    std::size_t out_len;
 };
 
 #ifdef HAS_BOOST
@@ -45,16 +44,18 @@ struct Entry {
 
 struct Less {
     bool operator()(const Entry &one, const Entry &other) const { return one.item < other.item; }
+    static void see(std::size_t) {}
 };
 
-// The same, and counts.
+// The same, and counts comparisons, and how many entries there are at most.
 struct Tally {
-    static inline std::uint64_t made = 0;
+    static inline std::uint64_t made = 0, most = 0;
 
     bool operator()(const Entry &one, const Entry &other) const {
         made++;
         return one.item < other.item;
     }
+    static void see(std::size_t entries) { most = std::max(most, std::uint64_t(entries)); }
 };
 
 // The heap, with the handle of each key.
@@ -87,6 +88,7 @@ template <unsigned D, typename Compare = Less> class Heap {
             heap.increase(waiting.handle, {item, key});
         else
             waiting = {heap.push({item, key}), true};
+        Compare::see(heap.size());
     }
 
     void cancel(std::size_t key) {
@@ -96,8 +98,6 @@ template <unsigned D, typename Compare = Less> class Heap {
     }
 
     bool empty() const { return heap.empty(); }
-
-    std::size_t size() const { return heap.size(); }
 
     Entry pop() {
         const Entry entry = heap.top();
@@ -151,43 +151,55 @@ template <typename H> std::uint64_t reprioritise(const Given &given) {
     return count;
 }
 
-// Returns how many entries there were at most, if that is watched.
-template <typename H, bool WATCHED> std::uint64_t search(const Given &given) {
-    std::uint64_t *costs = given.out;
-    const std::size_t count = given.out_len;
-    for (std::size_t node = 0; node < count; node++)
-        costs[node] = UINT64_MAX;
-    H nodes(count);
-    std::size_t most = 0;
+using Graph = std::vector<std::vector<Change>>;
+
+// So many edges leave each node.
+Graph graph_of(const Given &given) {
+    Graph graph;
+    graph.reserve(given.changes_len / given.degree);
+    for (std::size_t at = 0; at < given.changes_len; at += given.degree)
+        graph.emplace_back(given.changes + at, given.changes + at + given.degree);
+    return graph;
+}
+
+// The least cost of a walk from node 0.
+template <typename H> std::uint64_t cheapest(const Graph &graph, std::size_t goal) {
+    std::vector<std::uint64_t> costs(graph.size(), UINT64_MAX);
+    H nodes(graph.size());
     costs[0] = 0;
     nodes.raise(0, UINT64_MAX);
     while (!nodes.empty()) {
-        if (WATCHED)
-            most = std::max(most, nodes.size());
         const Entry least = nodes.pop();
-        const Change *edges = given.changes + least.key * given.degree;
-        for (std::size_t at = 0; at < given.degree; at++) {
-            const std::uint64_t cost = ~least.item + edges[at].item;
-            if (cost < costs[edges[at].key]) {
-                costs[edges[at].key] = cost;
-                nodes.raise(edges[at].key, ~cost);
+        if (least.key == goal)
+            return ~least.item;
+        for (const Change &edge : graph[least.key]) {
+            const std::uint64_t cost = ~least.item + edge.item;
+            if (cost < costs[edge.key]) {
+                costs[edge.key] = cost;
+                nodes.raise(edge.key, ~cost);
             }
         }
     }
-    return most;
+    return UINT64_MAX;
 }
 
-// Behind the costs are the comparisons, and how many entries there were at most.
-template <typename H> std::uint64_t search_counted(Given given) {
-    given.out_len -= 2;
-    Tally::made = 0;
-    const std::uint64_t most = search<H, true>(given);
-    given.out[given.out_len] = Tally::made;
-    given.out[given.out_len + 1] = most;
-    return given.out_len + 2;
+template <typename H> std::uint64_t search(const Given &given) {
+    const Graph graph = graph_of(given);
+    for (std::size_t at = 0; at < given.len; at++)
+        given.out[at] = cheapest<H>(graph, given.items[at]);
+    return 0;
 }
 
-template <typename H> std::uint64_t work(Call call, const Given &given) {
+template <typename H> std::uint64_t count(const Given &given) {
+    Tally::made = Tally::most = 0;
+    cheapest<H>(graph_of(given), given.items[0]);
+    given.out[0] = Tally::made;
+    given.out[1] = Tally::most;
+    return 2;
+}
+
+template <unsigned D> std::uint64_t work(Call call, const Given &given) {
+    using H = Heap<D>;
     switch (call) {
     case PUSH:
         return pop<H>(pushed<H>(given), given.out, 1);
@@ -198,34 +210,9 @@ template <typename H> std::uint64_t work(Call call, const Given &given) {
     case REPRIORITISE:
         return reprioritise<H>(given);
     case SEARCH:
-        search<H, false>(given);
-        return given.out_len;
-    default:
-        return REFUSED;
-    }
-}
-
-std::uint64_t at_arity(std::size_t arity, Call call, const Given &given) {
-    switch (arity) {
-    case 2:
-        return work<Heap<2>>(call, given);
-    case 4:
-        return work<Heap<4>>(call, given);
-    case 8:
-        return work<Heap<8>>(call, given);
-    default:
-        return REFUSED;
-    }
-}
-
-std::uint64_t counted_at_arity(std::size_t arity, const Given &given) {
-    switch (arity) {
-    case 2:
-        return search_counted<Heap<2, Tally>>(given);
-    case 4:
-        return search_counted<Heap<4, Tally>>(given);
-    case 8:
-        return search_counted<Heap<8, Tally>>(given);
+        return search<H>(given);
+    case COUNT:
+        return count<Heap<D, Tally>>(given);
     default:
         return REFUSED;
     }
@@ -233,9 +220,7 @@ std::uint64_t counted_at_arity(std::size_t arity, const Given &given) {
 
 #else
 
-std::uint64_t at_arity(std::size_t, Call, const Given &) { return REFUSED; }
-
-std::uint64_t counted_at_arity(std::size_t, const Given &) { return REFUSED; }
+template <unsigned D> std::uint64_t work(Call, const Given &) { return REFUSED; }
 
 #endif
 
@@ -243,21 +228,18 @@ std::uint64_t counted_at_arity(std::size_t, const Given &) { return REFUSED; }
 
 extern "C" std::uint64_t keyed_boost(std::size_t call, std::size_t arity, const std::uint64_t *items,
                                      std::size_t len, const Change *changes, std::size_t changes_len,
-                                     std::size_t degree, std::uint64_t *out, std::size_t out_len) {
+                                     std::size_t degree, std::uint64_t *out, std::size_t) {
+    const Given given = {items, len, changes, changes_len, degree, out};
     try {
-        return at_arity(arity, static_cast<Call>(call),
-                        {items, len, changes, changes_len, degree, out, out_len});
+        switch (arity) {
+        case 2:
+            return work<2>(static_cast<Call>(call), given);
+        case 4:
+            return work<4>(static_cast<Call>(call), given);
+        case 8:
+            return work<8>(static_cast<Call>(call), given);
+        }
     } catch (const std::bad_alloc &) {
-        return REFUSED;
     }
-}
-
-extern "C" std::uint64_t keyed_boost_counted(std::size_t, std::size_t arity, const std::uint64_t *items,
-                                             std::size_t len, const Change *changes, std::size_t changes_len,
-                                             std::size_t degree, std::uint64_t *out, std::size_t out_len) {
-    try {
-        return counted_at_arity(arity, {items, len, changes, changes_len, degree, out, out_len});
-    } catch (const std::bad_alloc &) {
-        return REFUSED;
-    }
+    return REFUSED;
 }

@@ -2,6 +2,7 @@
 
 use crate::pairs;
 use crate::workload::{Call, Change, Task};
+use std::time::{Duration, Instant};
 
 pub const ARITIES: [usize; 3] = [2, 4, 8];
 
@@ -16,110 +17,81 @@ pub enum Heap {
 /// A heap, and its arity. That of a set is any.
 pub type Rival = (Heap, usize);
 
-/// Does a workload at an arity, on items, changes or edges, so many for each node. It returns how many numbers it wrote,
-/// and `u64::MAX` if it has no such workload or arity, or if memory allocation fails.
-type Function = unsafe extern "C" fn(
-    call: Call,
-    arity: usize,
-    items: *const u64,
-    items_len: usize,
-    changes: *const Change,
-    changes_len: usize,
-    degree: usize,
-    out: *mut u64,
-    out_len: usize,
-) -> u64;
-
-/// The function of this name.
-macro_rules! function {
-    ($name:ident) => {{
-        extern "C" {
-            fn $name(
-                call: Call,
-                arity: usize,
-                items: *const u64,
-                items_len: usize,
-                changes: *const Change,
-                changes_len: usize,
-                degree: usize,
-                out: *mut u64,
-                out_len: usize,
-            ) -> u64;
+/// Functions of the library and of C++. Each does a workload at an arity, on items, changes or edges, so many for each
+/// node. It returns `u64::MAX` if it has no such workload or arity, or if memory allocation fails.
+macro_rules! linked {
+    ($($name:ident)*) => {$(
+        fn $name(call: Call, arity: usize, task: &Task, out: &mut [u64]) -> u64 {
+            extern "C" {
+                fn $name(
+                    call: Call,
+                    arity: usize,
+                    items: *const u64,
+                    items_len: usize,
+                    changes: *const Change,
+                    changes_len: usize,
+                    degree: usize,
+                    out: *mut u64,
+                    out_len: usize,
+                ) -> u64;
+            }
+            let (items, changes, degree) = (&task.items, &task.changes, task.degree);
+            let (items, items_len) = (items.as_ptr(), items.len());
+            let (changes, changes_len) = (changes.as_ptr(), changes.len());
+            let (out, out_len) = (out.as_mut_ptr(), out.len());
+            // SAFETY: the function reads the items and changes and writes below the length of `out`, and keeps none of
+            // them. That of C++ writes as many as the task has room for.
+            unsafe { $name(call, arity, items, items_len, changes, changes_len, degree, out, out_len) }
         }
-        $name
-    }};
+    )*};
 }
 
-/// All that are there.
-pub fn rivals() -> Vec<Rival> {
-    let at_arities = |heap| ARITIES.map(|arity| (heap, arity));
-    let rivals = [Heap::Here, Heap::Boost, Heap::Stale].map(at_arities);
-    let mut rivals = rivals.concat();
-    rivals.push((Heap::Set, 0));
-    rivals.retain(|(heap, _)| *heap != Heap::Boost || has_boost());
-    rivals
-}
+linked!(bench_indexed bench_stale bench_search);
+#[cfg(has_cpp)]
+linked!(keyed_boost);
 
-/// Whether boost's heap is there.
-pub fn has_boost() -> bool {
-    let task = Task {
-        items: vec![1],
-        changes: Vec::new(),
-        degree: 0,
-        room: 1,
-        count: 1,
-    };
-    run((Heap::Boost, 2), Call::Pop, &task, &mut [0]).is_some()
-}
+impl Heap {
+    /// The arities at which it does a workload: `shortest_path`, the search with stale entries, has one of its own.
+    fn arities(self, call: Call) -> &'static [usize] {
+        match (self, call) {
+            (Heap::Set, _) => &[0],
+            (Heap::Stale, Call::Search) => &[3],
+            _ => &ARITIES,
+        }
+    }
 
-/// Does a workload, and returns how many numbers it wrote. None if it is refused.
-pub fn run((heap, arity): Rival, call: Call, task: &Task, out: &mut [u64]) -> Option<usize> {
-    match heap {
-        Heap::Here => linked(function!(bench_indexed), arity, call, task, out),
-        Heap::Stale => linked(function!(bench_stale), arity, call, task, out),
-        #[cfg(has_cpp)]
-        Heap::Boost => linked(function!(keyed_boost), arity, call, task, out),
-        #[cfg(not(has_cpp))]
-        Heap::Boost => None,
-        Heap::Set => Some(pairs::work(call, task, out)),
+    /// Whether it is there, as boost's may not be.
+    pub fn is_there(self) -> bool {
+        run(
+            (self, self.arities(Call::Pop)[0]),
+            Call::Pop,
+            &Task::default(),
+            &mut [],
+        )
+        .is_some()
     }
 }
 
-/// The comparisons of a search, and how many entries there were at most. None if it is refused or isn't counted.
-pub fn counted((heap, arity): Rival, task: &Task) -> Option<[u64; 2]> {
-    let function: Function = match heap {
-        Heap::Here => function!(bench_indexed_counted),
-        Heap::Stale => function!(bench_stale_counted),
-        #[cfg(has_cpp)]
-        Heap::Boost => function!(keyed_boost_counted),
-        _ => return None,
-    };
-    let mut out = vec![0; task.room + 2];
-    linked(function, arity, Call::Search, task, &mut out)?;
-    Some([out[task.room], out[task.room + 1]])
+/// All that do a workload.
+pub fn rivals(call: Call) -> Vec<Rival> {
+    let heaps = [Heap::Here, Heap::Boost, Heap::Stale, Heap::Set];
+    let at_arities = |heap: Heap| heap.arities(call).iter().map(move |arity| (heap, *arity));
+    heaps.into_iter().flat_map(at_arities).collect()
 }
 
-fn linked(
-    function: Function,
-    arity: usize,
-    call: Call,
-    task: &Task,
-    out: &mut [u64],
-) -> Option<usize> {
-    // SAFETY: the function reads the items and changes and writes below the length of `out`, and keeps none of them.
-    // That of C++ writes as many as the task has room for.
-    let answer = unsafe {
-        function(
-            call,
-            arity,
-            task.items.as_ptr(),
-            task.items.len(),
-            task.changes.as_ptr(),
-            task.changes.len(),
-            task.degree,
-            out.as_mut_ptr(),
-            out.len(),
-        )
+/// Does a workload, and returns its time. None if it is refused.
+pub fn run((heap, arity): Rival, call: Call, task: &Task, out: &mut [u64]) -> Option<Duration> {
+    let begun = Instant::now();
+    let answer = match (heap, call) {
+        #[cfg(has_cpp)]
+        (Heap::Boost, _) => keyed_boost(call, arity, task, out),
+        #[cfg(not(has_cpp))]
+        (Heap::Boost, _) => u64::MAX,
+        (Heap::Set, _) => pairs::work(call, task, out),
+        (_, Call::Search | Call::Count) => bench_search(call, arity, task, out),
+        (Heap::Here, _) => bench_indexed(call, arity, task, out),
+        (Heap::Stale, _) => bench_stale(call, arity, task, out),
     };
-    (answer != u64::MAX).then_some(answer as usize)
+    let elapsed = begun.elapsed();
+    (answer != u64::MAX).then_some(elapsed)
 }

@@ -1,7 +1,8 @@
 //! The table: its rows are printed as they come.
 
-use crate::rivals::{counted, Heap, Rival, ARITIES};
-use crate::workload::Task;
+use crate::peak;
+use crate::rivals::{rivals, run, Heap, Rival, ARITIES};
+use crate::workload::{Call, Task};
 
 /// The nanoseconds of each rival.
 pub type Times = Vec<(Rival, f64)>;
@@ -23,57 +24,73 @@ pub fn header() -> String {
 
 /// The nanoseconds of this heap at each arity, and its time over that of each other.
 pub fn row(name: &str, keys: usize, times: &Times) -> String {
-    let here = ARITIES.map(|arity| {
-        format!(
-            "{:.0}|",
-            nanoseconds(times, Heap::Here, arity).unwrap_or(0.0)
-        )
-    });
+    let time = |arity| nanoseconds(times, Heap::Here, arity).map(|time| format!("{time:.0}"));
+    let here = ARITIES.map(|arity| cell(time(arity)));
     let over = DIVISORS.map(|(heap, _)| ARITIES.map(|arity| over(times, heap, arity)).concat());
     format!("|{name}|{keys}|{}{}", here.concat(), over.concat())
 }
 
 fn nanoseconds(times: &Times, heap: Heap, arity: usize) -> Option<f64> {
-    let is_it = |rival: &Rival| rival.0 == heap && (heap == Heap::Set || rival.1 == arity);
+    // One that has an arity of its own, or none, stands beside each.
+    let is_it =
+        |rival: &Rival| rival.0 == heap && (rival.1 == arity || !ARITIES.contains(&rival.1));
     let found = times.iter().find(|(rival, _)| is_it(rival));
     found.map(|(_, time)| *time)
 }
 
 /// The cell of this heap's time over that of another, which is empty if that isn't there.
 fn over(times: &Times, heap: Heap, arity: usize) -> String {
-    let here = nanoseconds(times, Heap::Here, arity);
-    let other = nanoseconds(times, heap, arity);
-    let ratio = here
-        .zip(other)
-        .map(|(here, other)| format!("{:.2}", here / other));
-    ratio.unwrap_or_default() + "|"
+    let (here, other) = (Heap::Here, heap);
+    let both = nanoseconds(times, here, arity).zip(nanoseconds(times, other, arity));
+    cell(both.map(|(here, other)| format!("{:.2}", here / other)))
 }
 
-/// Those that count.
-const COUNTED: [(Heap, &str); 3] = [
-    (Heap::Here, "this heap"),
-    (Heap::Boost, "boost"),
-    (Heap::Stale, "`DaryHeap`"),
+/// One of each heap. The last doesn't count.
+const EACH: [Rival; 4] = [
+    (Heap::Here, 4),
+    (Heap::Boost, 4),
+    (Heap::Stale, 3),
+    (Heap::Set, 0),
 ];
 
 /// The head of the counts.
-pub fn counts_header() -> String {
-    let [first, others @ ..] = ARITIES.map(|arity| format!("{arity}|"));
-    let heads = COUNTED.map(|(_, head)| format!("{head}: {first}{}", others.concat()));
-    let most = COUNTED.map(|(_, head)| format!("{head}, most|"));
-    let lines = "--:|".repeat(1 + COUNTED.len() * (ARITIES.len() + 1));
-    format!("||nodes|{}{}\n|---|{lines}", heads.concat(), most.concat())
+pub const COUNTS_HEADER: &str = "\
+||nodes|this heap: 2|4|8|boost: 2|4|8|`DaryHeap`: 3|most here|boost|`DaryHeap`|MB here|boost|`DaryHeap`|`BTreeSet`|
+|---|--:|--:|--:|--:|--:|--:|--:|--:|--:|--:|--:|--:|--:|--:|--:|";
+
+/// Of a search the comparisons of an edge, how many entries there were at most, and the memory.
+pub fn counts_row(name: &str, keys: usize, task: &Task) -> String {
+    let count = |rival, which: usize| {
+        let mut out = [0; 2];
+        run(rival, Call::Count, task, &mut out).map(|_| out[which])
+    };
+    let comparisons = |made| format!("{:.2}", made as f64 / task.count as f64);
+    let megabytes = |bytes| format!("{:.2}", bytes as f64 / 1e6);
+    let counting = rivals(Call::Search)
+        .into_iter()
+        .filter(|(heap, _)| *heap != Heap::Set);
+    let made: String = counting
+        .map(|rival| cell(count(rival, 0).map(comparisons)))
+        .collect();
+    let most = EACH.map(|rival| count(rival, 1).map(|most| most.to_string()));
+    let taken = EACH.map(|rival| cell(taken(rival, task).map(megabytes)));
+    let most: String = most.into_iter().take(3).map(cell).collect();
+    format!("|{name}|{keys}|{made}{most}{}", taken.concat())
 }
 
-/// The comparisons of an edge at each arity, and how many entries there were at most at arity 4.
-pub fn counts_row(name: &str, keys: usize, task: &Task) -> String {
-    let made = |heap, arity| counted((heap, arity), task).map(|[made, _]| made);
-    let each = |made: u64| format!("{:.2}", made as f64 / task.count as f64);
-    let cell = |heap, arity| made(heap, arity).map(each).unwrap_or_default() + "|";
-    let made = COUNTED.map(|(heap, _)| ARITIES.map(|arity| cell(heap, arity)).concat());
-    let most = |heap| counted((heap, 4), task).map(|[_, most]| most.to_string());
-    let most = COUNTED.map(|(heap, _)| most(heap).unwrap_or_default() + "|");
-    format!("|{name}|{keys}|{}{}", made.concat(), most.concat())
+/// A cell, which is empty if there is no text.
+fn cell(text: Option<String>) -> String {
+    text.unwrap_or_default() + "|"
+}
+
+/// The bytes that a search takes at most, beside its graph. That is all that is taken without a goal.
+fn taken(rival: Rival, task: &Task) -> Option<isize> {
+    let peak = |task: &Task| {
+        let mut done = None;
+        let most = peak::of(|| done = run(rival, Call::Search, task, &mut [0]));
+        most.filter(|_| done.is_some())
+    };
+    Some(peak(task)? - peak(&task.without_goal())?)
 }
 
 /// What a fault calls a rival.

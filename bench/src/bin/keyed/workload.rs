@@ -1,6 +1,7 @@
 //! What is timed, and the inputs. These depend on the workload and the size alone, so each run of the program has the
 //! same.
 
+use crate::pairs;
 use crate::random::Random;
 use std::iter::repeat_with;
 
@@ -16,8 +17,10 @@ pub enum Call {
     Cancel,
     /// Items change, and after `CHANGES` of them one comes out and goes in again with another item.
     Reprioritise,
-    /// A search for the least costs of walks from a node to all.
+    /// A search for the cheapest walk from node 0 to another.
     Search,
+    /// The same over a heap that counts: the comparisons, and how many entries there were at most.
+    Count,
 }
 
 /// A key and the item that it gets. Or an edge: the node that it leads to, and what it costs.
@@ -29,7 +32,9 @@ pub struct Change {
 }
 
 /// The inputs of one run.
+#[derive(Clone, Default)]
 pub struct Task {
+    /// Or the node to which a walk is sought.
     pub items: Vec<u64>,
     /// Or the edges of a graph, so many for each node.
     pub changes: Vec<Change>,
@@ -38,6 +43,24 @@ pub struct Task {
     pub room: usize,
     /// By how many the time is divided.
     pub count: usize,
+}
+
+impl Task {
+    /// The same graph, in which nothing is sought.
+    pub fn without_goal(&self) -> Task {
+        Task {
+            items: Vec::new(),
+            ..self.clone()
+        }
+    }
+
+    /// For each node the list of its edges.
+    pub fn graph(&self) -> Vec<Vec<Change>> {
+        self.changes
+            .chunks(self.degree)
+            .map(<[_]>::to_vec)
+            .collect()
+    }
 }
 
 #[derive(Clone, Copy)]
@@ -112,10 +135,9 @@ fn changes(random: &mut Random, keys: usize, count: usize) -> Vec<Change> {
 fn plain(random: &mut Random, keys: usize) -> Task {
     Task {
         items: numbers(random, keys),
-        changes: Vec::new(),
-        degree: 0,
         room: keys,
         count: keys,
+        ..Task::default()
     }
 }
 
@@ -135,15 +157,20 @@ fn priorities(random: &mut Random, keys: usize) -> Task {
     }
 }
 
-/// The graph of these edges.
+/// The graph of these edges. The goal is one of the nodes that are farthest, so a search goes over all that it can reach.
 fn of_edges(edges: Vec<Change>, degree: usize) -> Task {
-    Task {
-        items: Vec::new(),
+    let mut task = Task {
         degree,
-        room: edges.len() / degree,
+        room: 2,
         count: edges.len(),
         changes: edges,
-    }
+        ..Task::default()
+    };
+    let costs = pairs::costs(&task.graph(), usize::MAX);
+    let reached = (0..costs.len()).filter(|node| costs[*node] < u64::MAX);
+    let farthest = reached.max_by_key(|node| costs[*node]);
+    task.items.extend(farthest.map(|node| node as u64));
+    task
 }
 
 fn edge(random: &mut Random, key: usize) -> Change {

@@ -11,9 +11,25 @@ pub(super) fn arity<const D: usize>() -> usize
     D.max(1)
 }
 
-/// Returns the parent of a place above 0.
+/// Returns the parent of a place in the tree of arity `D`: `(place - 1) / D`, or `place - 1` if `D` is 0.
+///
+/// It is before the place. Takes *O*(1), without a comparison.
+///
+/// # Preconditions
+///
+/// - `place` is above 0: the first place has no parent.
+///
+/// # Examples
+///
+/// ```
+/// use dary_heap::sift::parent;
+/// assert_eq!(rt; parent::<2>(1), 0);
+/// assert_eq!(rt; parent::<2>(6), 2);
+/// assert_eq!(rt; parent::<4>(4), 0);
+/// assert_eq!(rt; parent::<4>(5), 1);
+/// ```
 #[inline(always)]
-pub(super) fn parent<const D: usize>(place: usize) -> usize
+pub fn parent<const D: usize>(place: usize) -> usize
     requires { 0 < place }
     ensures { result ≡ parent_of D place }
 {

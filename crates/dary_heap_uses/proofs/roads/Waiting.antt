@@ -1,16 +1,17 @@
 -- Nodes that wait: no more than there are, and what a raise makes of them.
-use Rattle.dary_heap.proofs.Common.{◌≡◌, ◌≢◌, ◌⊎◌, ℕ, suc, ◌+◌, ◌<◌, ◌≤◌, inl, inr, List, [], ◌∷◌, length, map, Contains, arith, refl, sym, ap, ◌∙◌, subst, get_or, get_or-set_same, get_or-set_other}
-use Rattle.dary_heap.proofs.Common.{cases_eq, set, length-set, length-map, length_permutation, IsPermutation-sym, IsSameBag, Option, Some, None, slice_get-get_or, nat_eq, false, AllByRecursion}
-use Rattle.dary_heap.proofs.Common.{IsDistinct, IsDistinct-cons, ne_eqb, eqb-true, nat_cmp, true}
-use Rattle.dary_heap.proofs.Bags.{Contains-cases, Contains-first, Contains-later, came_first, came_later, came_cases, holds_none}
-use Rattle.dary_heap.proofs.Callers.{nat_le_from_cmp}
-use Rattle.std.proofs.Common.{Bool}
+use Rattle.dary_heap.proofs.Common.{◌≡◌, ◌≢◌, ◌⊎◌, ℕ, suc, ◌+◌, ◌<◌, ◌≤◌, inl, inr, List, [], ◌∷◌, ◌++◌, length, map, Contains, arith, refl, sym, ap, ◌∙◌, subst, get_or, get_or-set_same}
+use Rattle.dary_heap.proofs.Common.{get_or-set_other, cases_eq, set, length-set, length-map, length_permutation, IsPermutation-sym, IsSameBag, Option, Some, None, slice_get-get_or, nat_eq, false}
+use Rattle.dary_heap.proofs.Common.{AllByRecursion, IsDistinct, IsDistinct-cons, ne_eqb, eqb-true, nat_cmp, true}
+use Rattle.dary_heap.proofs.Bags.{Contains-cases, came_first, came_later, came_cases}
+use Rattle.dary_heap.proofs.Callers.{All-mapped, nat_le_from_cmp}
+use Rattle.std.proofs.Common.{Bool, length-append}
+use Rattle.std.proofs.lemmas.List.Elements.{All-contains, Contains-append_right}
 use Rattle.std.proofs.lemmas.Map.Steps.{length-le_from_distinct_below}
 use Rattle.std.proofs.lemmas.Map.Views.{Contains-from_any}
 use Rattle.std.specs.Bool.{OnTrue, OnFalse}
 use Rattle.std.specs.declared.cmp.Ordering.{Ordering}
 use Rattle.indexed_heap.proofs.Callers.{item_of-none, item_of-there, one_item}
-use Rattle.indexed_heap.specs.Entries.{AreDistinct, Gets, Indexed, IsAbsent, IsEntry, IsReached, Raises, by_item, item_of}
+use Rattle.indexed_heap.specs.Entries.{AreDistinct, Gets, Indexed, IsAbsent, IsEntry, IsReached, Raises, by_item, entries_of, item_of}
 use Rattle.dary_heap_uses.specs.Routes.{HasSameRoom, IsReady, Waits}
 
 abbrev pub Entry : Type 0
@@ -18,11 +19,9 @@ Entry = ℕ × ℕ
 
 -- what a list has after a function went over it
 pub Contains-map_cases : {X Y : Type 0} (f : X → Y) (xs : List X) (y : Y) → Contains (map f xs) y → (x : X) × Contains xs x × (f x ≡ y)
-Contains-map_cases f [] y h = absurd (holds_none y h)
-Contains-map_cases f (x ∷ xs) y h = elim (Contains-cases (f x) (map f xs) y h) [
-  | inl is ↦ (x, Contains-first x xs, is)
-  | inr later ↦ let there = Contains-map_cases f xs y later in (there.0, Contains-later x xs there.0 there.1, there.2)
-]
+Contains-map_cases {X} {Y} f xs y h =
+    let P : Y → Type 0 = λ y. (x : X) × Contains xs x × (f x ≡ y) in
+    All-contains P (map f xs) y (All-mapped P f xs (λ x in'. (x, in', refl))) h
 
 -- entries are distinct by whatever tells their keys apart
 module _ {Y : Type 0} (f : Entry → Y) (eq : Y → Y → Bool) (differ : (d e : Entry) → d.0 ≢ e.0 → eq (f d) (f e) ≡ false) where
@@ -76,8 +75,7 @@ module _ {limit : ℕ} {found : List ℕ} {heap : Indexed ℕ} (ready : IsReady 
 
 module _ {node cost : ℕ} {old new : List Entry} where
   pub came : (given : Option ℕ) → Gets node cost old given new → (e : Entry) → Contains new e → ((node, cost) ≡ e) ⊎ Contains old e
-  came None w e h = came_cases (node, cost) old new e w.bag h
-  came (Some less) w e h = came_cases (node, cost) old ((node, less) ∷ new) e w.bag (Contains-later (node, less) new e h)
+  came given w e h = came_cases (node, cost) old (entries_of node given ++ new) e w.bag (Contains-append_right (entries_of node given) new e h)
 
   pub kept : (given : Option ℕ) → Gets node cost old given new → (e : Entry) → Contains old e → Contains new e ⊎ (e.0 ≡ node)
   kept None w e h = inl (came_later (node, cost) old new e w.bag h)
@@ -87,8 +85,7 @@ module _ {node cost : ℕ} {old new : List Entry} where
   ]
 
   pub longer : (given : Option ℕ) → Gets node cost old given new → length new ≤ length old + 1
-  longer None w = omega (arith, length_permutation ((node, cost) ∷ old) new w.bag)
-  longer (Some less) w = omega (arith, length_permutation ((node, cost) ∷ old) ((node, less) ∷ new) w.bag)
+  longer given w = omega (arith, length_permutation ((node, cost) ∷ old) (entries_of node given ++ new) w.bag, length-append (entries_of node given) new)
 
 -- what is ready stays so
 pub stays_ready : {limit node cost : ℕ} {found : List ℕ} {old new : Indexed ℕ} → IsReady limit found old → node < length found → Waits node cost old.entries new.entries → AreDistinct new.entries →

@@ -1,6 +1,9 @@
 //! How many entries a heap has room for, and below which number keys have a place.
-ghost use Rattle.std.specs.Prelude.{◌≡◌, ℕ, ◌+◌, ◌<◌, ◌≤◌, ◌⊎◌, [], length, IfOk, IsOk, OnOk, OnErr};
-ghost use Rattle.indexed_heap.specs.Entries.{AreSound, IsEntry};
+ghost use Rattle.std.specs.Prelude.{◌≡◌, ℕ, ◌+◌, ◌<◌, ◌≤◌, ◌⊎◌, [], length, max, min, slice_get, IfOk, IsOk, OnOk, OnErr, Some};
+ghost use Rattle.dary_heap.specs.Room.{Shrinks};
+ghost use Rattle.indexed_heap.specs.Entries.{AreSound, IsEntry, by_item};
+ghost use Rattle.indexed_heap.specs.Iterating.{contents};
+ghost use Rattle.indexed_heap.specs.Keys.{key_bound};
 
 use super::IndexedHeap;
 use crate::judge::ByItem;
@@ -122,4 +125,83 @@ impl<T, const D: usize, J: Judge<T>> IndexedHeap<T, D, J> {
     {
         reserve(&mut self.slots, &mut self.places, additional, keys)
     }
+
+    /// Gives room back. There stays room for `min_capacity` entries, or for those that are there if they are more, and
+    /// for the keys below `min_keys`, or up to the greatest one if that is greater. Of less room than that none is made.
+    /// Takes *O*(*n*), without a comparison.
+    ///
+    /// # Errors
+    ///
+    /// Returns `AllocError` if the allocator can't provide a smaller block for the entries. They stay as they are, their
+    /// room has not grown, and [`keys`](IndexedHeap::keys) is as after `Ok`. If there is no smaller block for the table
+    /// of places, the table keeps the one that it has.
+    ///
+    /// # Examples
+    ///
+    /// ```
+    /// use indexed_heap::IndexedHeap;
+    /// let mut heap = IndexedHeap::<_, 4>::with_capacity(alloc, 100, 1000)?;
+    /// heap.insert(30, 7)?;
+    /// heap.shrink_to(10, 50)?;
+    /// assert_eq!(rt; (heap.capacity(), heap.keys()), (10, 50));
+    /// heap.shrink_to(0, 20)?;
+    /// assert_eq!(rt; (heap.capacity(), heap.keys()), (1, 31));
+    /// ```
+    pub fn shrink_to(&mut self, min_capacity: usize, min_keys: usize) -> Result<(), AllocError>
+        ensures room { Shrinks (by_item J.order) D (max (length self.old.entries) min_capacity)
+            (contents self.old) (contents self.new) result }
+        ensures keys { self.new.keys ≡ min self.old.keys
+            (max (key_bound self.old.entries) min_keys) }
+        ensures covers { key_bound self.new.entries ≤ self.new.keys }
+        ensures sound { AreSound J.order D self.new.entries }
+    {
+        let keys = bound_of(self.slots.as_slice()).max(min_keys);
+        self.places.truncate(keys);
+        self.places.shrink_to_fit();
+        let wanted = self.slots.len().max(min_capacity);
+        self.slots.shrink_to(min_capacity);
+        if wanted < self.slots.capacity() {
+            return Err(AllocError);
+        }
+        Ok(())
+    }
+
+    /// Gives back all room for entries that aren't there, and for keys above the greatest one. Takes *O*(*n*), without
+    /// a comparison.
+    ///
+    /// # Errors
+    ///
+    /// As [`shrink_to`](IndexedHeap::shrink_to).
+    ///
+    /// # Examples
+    ///
+    /// ```
+    /// use indexed_heap::IndexedHeap;
+    /// let mut heap = IndexedHeap::<_, 4>::with_capacity(alloc, 100, 1000)?;
+    /// heap.insert(30, 7)?;
+    /// heap.insert(90, 2)?;
+    /// heap.remove(90);
+    /// heap.shrink_to_fit()?;
+    /// assert_eq!(rt; (heap.capacity(), heap.keys()), (1, 31));
+    /// ```
+    pub fn shrink_to_fit(&mut self) -> Result<(), AllocError>
+        ensures room { Shrinks (by_item J.order) D (length self.old.entries) (contents self.old)
+            (contents self.new) result }
+        ensures keys { self.new.keys ≡ key_bound self.old.entries }
+        ensures sound { AreSound J.order D self.new.entries }
+    {
+        self.shrink_to(0, 0)
+    }
+}
+
+/// Returns the least number that is above each key.
+fn bound_of<T>(slots: &[(usize, T)]) -> usize
+    requires { (i : ℕ) (slot : ℕ × T) → slice_get slots.now i ≡ Some slot → slot.0 < usize.MAX }
+    ensures { result ≡ key_bound slots.now }
+{
+    let mut bound = 0;
+    for (key, _) in slots {
+        bound = bound.max(*key + 1);
+    }
+    bound
 }

@@ -1,10 +1,15 @@
 //! Copies of heaps, and what a heap shows as text.
-ghost use Rattle.std.specs.Prelude.{◌≡◌, ℕ, Contains, IfOk, IsOk};
+ghost use Rattle.std.specs.Prelude.{◌≡◌, ℕ, ◌<◌, Contains, IfOk, IsOk, Some, length, slice_get};
+ghost use Rattle.std.specs.Fmt.{debug_list};
+ghost use Rattle.indexed_heap.specs.Copying.{IsCopiedFreely, IsEntryCopy};
+ghost use Rattle.indexed_heap.specs.Entries.{AreDistinct};
 ghost use Rattle.indexed_heap.specs.Making.{IsNew};
+ghost use Rattle.indexed_heap.specs.Places.{AreRight};
+ghost use Rattle.indexed_heap.specs.Showing.{debug_entry};
 
 use super::IndexedHeap;
 use crate::judge::ByItem;
-use dary_heap::sift::{ByOrd, Judge};
+use dary_heap::sift::{ByOrd, Judge, build_with};
 use std::alloc::{AllocError, Global};
 use std::default::{Emptied, MadeWith};
 use std::fmt;
@@ -54,6 +59,62 @@ impl<T: Ord, const D: usize> IndexedHeap<T, D> {
     }
 }
 
+/// Copies the heap, for `derive(Clone)` and for a judge of another type than `ByOrd`. It is built of the keys with the
+/// items' clones by a clone of the judge, with the comparisons of `from` of a vector for a `DaryHeap`. Otherwise a call
+/// `heap.clone()` is of [`IndexedHeap::clone`], which makes no comparison.
+///
+/// # Errors
+///
+/// Returns `AllocError` if memory allocation fails, here or in the `clone` of an item or the judge. For a heap without
+/// room for [`keys`](IndexedHeap::keys), such as a new one, it fails only if the judge's `clone` does.
+///
+/// # Examples
+///
+/// ```
+/// use dary_heap::sift::{ByOrd, LeastFirst};
+/// use indexed_heap::IndexedHeap;
+/// let mut timers = IndexedHeap::<_, 4, _>::with_judge(alloc, LeastFirst(ByOrd::new()));
+/// timers.insert(3, 50)?;
+/// timers.insert(8, 10)?;
+/// let mut copy = timers.clone()?;
+/// assert_eq!(rt; timers.remove(8), Some(10));
+/// assert_eq!(rt; copy.pop(), Some((8, 10)));
+/// ```
+impl<T: Clone, const D: usize, J: Judge<T> + Clone> Clone for IndexedHeap<T, D, J> {
+    ghost is_clone = { IsEntryCopy T.is_clone J.is_clone J.count J.order D };
+
+    ghost is_infallible = { IsCopiedFreely J.is_infallible J.count };
+
+    fn clone(&self) -> Result<Self, AllocError> {
+        let items = self.judge.items.clone()?;
+        if self.places.is_empty() {
+            return Ok(IndexedHeap::with_judge(*self.places.allocator(), items));
+        }
+        let mut judge = ByItem { items };
+        let mut places = self.places.clone()?;
+        let mut slots = self.slots.clone()?;
+        build_with::<(usize, T), ByItem<J>, D>(slots.as_mut_slice(), &mut judge);
+        write_places(slots.as_slice(), places.as_mut_slice());
+        Ok(IndexedHeap {
+            slots,
+            places,
+            judge,
+        })
+    }
+}
+
+/// Writes the place of each slot.
+fn write_places<T>(slots: &[(usize, T)], places: &mut [usize])
+    requires distinct { AreDistinct slots.now }
+    requires inside { (i : ℕ) (slot : ℕ × T) → slice_get slots.now i ≡ Some slot → slot.0 < length places.old }
+    ensures right { AreRight slots.now places.new }
+    ensures len { length places.new ≡ length places.old }
+{
+    for place in 0..slots.len() {
+        places[slots[place].0] = place;
+    }
+}
+
 /// Returns an empty heap, as [`IndexedHeap::new`] does, for `or_default` and for `made_with` of a struct with a heap.
 impl<T: Ord, const D: usize> MadeWith<Global> for IndexedHeap<T, D> {
     ghost is_made_with = { λ heap. IsNew heap };
@@ -63,8 +124,7 @@ impl<T: Ord, const D: usize> MadeWith<Global> for IndexedHeap<T, D> {
     }
 }
 
-/// Returns an empty heap, which `mem::try_take` leaves in place of the one that it takes. It fails only if the
-/// allocator's own `clone` does.
+/// Returns an empty heap, which `mem::try_take` leaves in place of the one that it takes. It doesn't fail.
 ///
 /// # Examples
 ///
@@ -80,8 +140,11 @@ impl<T: Ord, const D: usize> MadeWith<Global> for IndexedHeap<T, D> {
 impl<T: Ord, const D: usize> Emptied for IndexedHeap<T, D> {
     ghost is_emptied = { λ heap. IsNew heap };
 
-    fn emptied(like: &Self) -> Result<Self, AllocError> {
-        Ok(IndexedHeap::new(like.slots.allocator().clone()?))
+    fn emptied(like: &Self) -> Result<Self, AllocError>
+        ensures empty { IfOk result (λ heap. IsNew heap) }
+        ensures succeeds { IsOk result }
+    {
+        Ok(IndexedHeap::new(*like.slots.allocator()))
     }
 }
 
@@ -97,6 +160,8 @@ impl<T: Ord, const D: usize> Emptied for IndexedHeap<T, D> {
 /// assert_eq!(rt; format!(in alloc; "{heap:?}")?.as_str(), "[(6, 5), (8, 1)]");
 /// ```
 impl<T: fmt::Debug, const D: usize, J: Judge<T>> fmt::Debug for IndexedHeap<T, D, J> {
+    ghost debug_output = { λ heap. debug_list (debug_entry T.debug_output) heap.entries };
+
     fn fmt<W: fmt::Write>(&self, f: &mut fmt::Formatter<W>) -> fmt::Result {
         fmt::Debug::fmt(&self.slots, f)
     }

@@ -1,11 +1,12 @@
 //! The iterator that consumes a heap.
-ghost use Rattle.std.specs.Prelude.{◌≡◌, ◌^◌, ◌<◌, ℕ, List, length};
+ghost use Rattle.std.specs.Prelude.{◌≡◌, ◌^◌, ◌<◌, ℕ, List, length, Contains, IfOk};
 ghost use Rattle.std.specs.Iterator.{YieldsFirst, YieldsLast, item_count};
 ghost use Rattle.std.specs.Iterator.Runs.{YieldsInOrder, YieldsInReverse};
 ghost use Rattle.dary_heap.specs.Sizes.{HintsExactly};
 
 use crate::heap::IndexedHeap;
 use dary_heap::sift::Judge;
+use std::alloc::AllocError;
 use std::collections::VecDeque;
 use std::fmt;
 use std::iter::FusedIterator;
@@ -46,6 +47,36 @@ impl<T> IntoIter<T> {
         IntoIter {
             rest: VecDeque::from(slots),
         }
+    }
+
+    /// Returns an iterator over the keys that are left, with clones of their items. Makes no comparison.
+    ///
+    /// # Preconditions
+    ///
+    /// - Each item's clone has the same value as the item.
+    ///
+    /// # Errors
+    ///
+    /// Returns `AllocError` if memory allocation fails, here or in an item's `clone`.
+    ///
+    /// # Examples
+    ///
+    /// ```
+    /// use indexed_heap::IndexedHeap;
+    /// let mut heap = IndexedHeap::<_, 4>::new(alloc);
+    /// heap.insert(8, 1)?;
+    /// let mut entries = heap.into_iter();
+    /// assert_eq!(rt; entries.clone()?.next(), Some((8, 1)));
+    /// assert_eq!(rt; entries.next(), Some((8, 1)));
+    /// ```
+    pub fn clone(&self) -> Result<Self, AllocError>
+    where
+        T: Clone + Drop,
+        requires { (key : ℕ) (x y : T) → Contains self.now (key, x) → T.is_clone x y → y ≡ x }
+        ensures { IfOk result (λ copy. copy ≡ self.now) }
+    {
+        let rest = self.rest.clone()?;
+        Ok(IntoIter { rest })
     }
 }
 

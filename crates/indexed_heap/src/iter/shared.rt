@@ -1,5 +1,5 @@
 //! The iterator that lends the entries of a heap.
-ghost use Rattle.std.specs.Prelude.{◌≡◌, ◌^◌, ◌<◌, ℕ, List, length, ⊤};
+ghost use Rattle.std.specs.Prelude.{◌≡◌, ◌^◌, ◌<◌, ℕ, [], List, length, ⊤};
 ghost use Rattle.std.specs.Slice.Iter.{iter_rest};
 ghost use Rattle.std.specs.Iterator.{YieldsFirstBy, YieldsLastBy, item_count};
 ghost use Rattle.dary_heap.specs.Sizes.{HintsExactly};
@@ -10,7 +10,7 @@ use dary_heap::sift::Judge;
 use std::alloc::AllocError;
 use std::iter::FusedIterator;
 use std::marker::Model;
-use std::slice;
+use std::{fmt, slice};
 
 /// An iterator over the keys of a heap, each with a reference to its item, in the order in which they are stored.
 ///
@@ -119,6 +119,30 @@ impl<T> Clone for Iter<'_, T> {
         Ok(Iter {
             rest: self.rest.clone()?,
         })
+    }
+}
+
+/// Returns an iterator over no entries.
+///
+/// # Examples
+///
+/// ```
+/// use indexed_heap::Iter;
+/// assert_eq!(rt; Iter::<i32>::default().next(), None);
+/// ```
+impl<T> Default for Iter<'_, T> {
+    ghost is_default = { λ it. it ≡ [] };
+
+    fn default() -> Self {
+        Iter {
+            rest: slice::Iter::default(),
+        }
+    }
+}
+
+impl<T: fmt::Debug> fmt::Debug for Iter<'_, T> {
+    fn fmt<W: fmt::Write>(&self, f: &mut fmt::Formatter<W>) -> fmt::Result {
+        f.debug_tuple("Iter").field(&self.rest.as_slice()).finish()
     }
 }
 

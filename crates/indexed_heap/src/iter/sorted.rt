@@ -1,13 +1,16 @@
 //! The iterator that pops the entries of a heap.
-ghost use Rattle.std.specs.Prelude.{◌≡◌, ◌^◌, ◌<◌, length};
+ghost use Rattle.std.specs.Prelude.{◌≡◌, ◌^◌, ◌<◌, ℕ, length, Contains, IfOk, IsOk};
 ghost use Rattle.std.specs.Iterator.{item_count};
 ghost use Rattle.dary_heap.specs.Popping.{GivesDescending};
 ghost use Rattle.dary_heap.specs.Sizes.{HintsExactly};
 ghost use Rattle.indexed_heap.specs.Entries.{AreSound, Indexed, by_item};
+ghost use Rattle.indexed_heap.specs.Copying.{IsCopiedFreely, IsEntryCopy};
 ghost use Rattle.indexed_heap.specs.Iterating.{IsEntryPop};
 
 use crate::heap::IndexedHeap;
 use dary_heap::sift::{ByOrd, Judge};
+use std::alloc::AllocError;
+use std::fmt;
 use std::iter::FusedIterator;
 use std::marker::Model;
 
@@ -70,6 +73,56 @@ impl<T, const D: usize, J: Judge<T>> IndexedHeap<T, D, J> {
     }
 }
 
+impl<T: Ord, const D: usize> IntoIterSorted<T, D> {
+    /// Returns an iterator over the keys that are left, with clones of their items. Makes no comparison.
+    ///
+    /// # Preconditions
+    ///
+    /// - Each item's clone has the same value as the item.
+    ///
+    /// # Errors
+    ///
+    /// As [`IndexedHeap::clone`].
+    ///
+    /// # Examples
+    ///
+    /// ```
+    /// use indexed_heap::IndexedHeap;
+    /// let mut heap = IndexedHeap::<_, 4>::new(alloc);
+    /// heap.insert(8, 1)?;
+    /// let mut entries = heap.into_iter_sorted();
+    /// assert_eq!(rt; entries.clone()?.next(), Some((8, 1)));
+    /// assert_eq!(rt; entries.next(), Some((8, 1)));
+    /// ```
+    pub fn clone(&self) -> Result<Self, AllocError>
+    where
+        T: Clone + Drop,
+        requires { (key : ℕ) (x y : T) → Contains self.now.entries (key, x) → T.is_clone x y → y ≡ x }
+        ensures entries { IfOk result (λ copy. copy.entries ≡ self.now.entries) }
+        ensures keys { IfOk result (λ copy. copy.keys ≡ self.now.keys) }
+        ensures uncounted { IfOk result (λ copy. copy.comparisons ≡ 0) }
+        ensures succeeds { self.now.keys ≡ 0 → IsOk result }
+    {
+        Ok(IntoIterSorted {
+            heap: self.heap.clone()?,
+        })
+    }
+}
+
+/// Copies what is left, for `derive(Clone)` and for a judge of another type than `ByOrd`, as the trait's `clone` of an
+/// [`IndexedHeap`] does. Otherwise a call `entries.clone()` is of [`IntoIterSorted::clone`].
+impl<T: Clone, const D: usize, J: Judge<T> + Clone> Clone for IntoIterSorted<T, D, J> {
+    ghost is_clone = { IsEntryCopy T.is_clone J.is_clone J.count J.order D };
+
+    ghost is_infallible = { IsCopiedFreely J.is_infallible J.count };
+
+    fn clone(&self) -> Result<Self, AllocError> {
+        Ok(IntoIterSorted {
+            heap: Clone::clone(&self.heap)?,
+        })
+    }
+}
+
 impl<T: Drop, const D: usize, J: Judge<T> + Drop> Iterator for IntoIterSorted<T, D, J> {
     type Item = (usize, T);
 
@@ -96,3 +149,9 @@ impl<T: Drop, const D: usize, J: Judge<T> + Drop> ExactSizeIterator for IntoIter
 }
 
 impl<T: Drop, const D: usize, J: Judge<T> + Drop> FusedIterator for IntoIterSorted<T, D, J> {}
+
+impl<T: fmt::Debug, const D: usize, J: Judge<T>> fmt::Debug for IntoIterSorted<T, D, J> {
+    fn fmt<W: fmt::Write>(&self, f: &mut fmt::Formatter<W>) -> fmt::Result {
+        f.debug_tuple("IntoIterSorted").field(&self.heap).finish()
+    }
+}

@@ -21,9 +21,9 @@ returns-then-place-eq0-clause-counted g c =
 -- the slot is greater than its parent's, and goes on from there
 up : (g : Over) (c : After-sift_up g) → SiftsUp g.J.Judge.order g.row.D c.args.place c.args.entries.now c.sift_up.new.entries (g.J.Judge.count c.args.judge.now) (g.J.Judge.count c.sift_up.new.judge)
 up g c =
-    let xs = c.args.entries.now in let at = c.args.place in let p = (at - 1) / c.max.result in
+    let xs = c.args.entries.now in let at = c.args.place in let p = c.parent-parent.result in
     let high : 0 < at = omega (arith, c.if-place-eq0.false) in
-    let is : p ≡ parent g.row.D at = ap (λ a. (at - 1) / a) c.max.ensures in
+    let is : p ≡ parent g.row.D at = c.parent-parent.ensures in
     let answer = sym c.at_most.ensures.answer ∙ c.if-not-at_most.true in
     let sifted : SiftsUp g.J.Judge.order g.row.D p (swap xs at p) c.sift_up.new.entries (g.J.Judge.count c.args.judge.now + 1) (g.J.Judge.count c.sift_up.new.judge) =
     rw (← c.at_most.ensures.counted) (rw (← c.exchange.ensures.entries) c.sift_up.ensures.sifted) in
@@ -35,9 +35,9 @@ returns-then-not-at_most-clause-bag g c = (up g (goal.at.returns-then-not-at_mos
 
 pub returns-then-not-at_most-clause-ordered : goal.returns-then-not-at_most-clause-ordered
 returns-then-not-at_most-clause-ordered g c = λ h.
-    let xs = c.args.entries.now in let at = c.args.place in let p = (at - 1) / c.max.result in
+    let xs = c.args.entries.now in let at = c.args.place in let p = c.parent-parent.result in
     let high : 0 < at = omega (arith, c.if-place-eq0.false) in
-    let is = ap (λ a. (at - 1) / a) c.max.ensures in
+    let is = c.parent-parent.ensures in
     let near : p < length xs = omega (arith, is, parent-below g.row.D at high, c.requires) in
     let over = answered_no g.met.J.Judge.total xs at p _ _ c.requires near (read_at xs at _ c.requires) (read_at xs p _ near) (sym c.at_most.ensures.answer ∙ c.if-not-at_most.true) in
     let way = up g (goal.at.returns-then-not-at_most-clause-ordered g c).After-sift_up in
@@ -50,9 +50,9 @@ returns-then-not-at_most-clause-counted g c =
 
 pub returns-clause-ordered : goal.returns-clause-ordered
 returns-clause-ordered g c = λ h.
-    let xs = c.args.entries.now in let at = c.args.place in let p = (at - 1) / c.max.result in
+    let xs = c.args.entries.now in let at = c.args.place in let p = c.parent-parent.result in
     let high : 0 < at = omega (arith, c.if-place-eq0.false) in
-    let is : p ≡ parent g.row.D at = ap (λ a. (at - 1) / a) c.max.ensures in
+    let is : p ≡ parent g.row.D at = c.parent-parent.ensures in
     let near : p < length xs = omega (arith, is, parent-below g.row.D at high, c.requires) in
     let at_most = answered_yes g.met.J.Judge.total xs at p _ _ c.requires near (read_at xs at _ c.requires) (read_at xs p _ near) (sym c.at_most.ensures.answer ∙ c.if-not-at_most.false) in
     let under = IsAtMost-by _ _ _ _ refl (ap (slice_get xs) (sym is)) at_most in
@@ -73,9 +73,9 @@ returns-then-place-eq0-clause-kept g c = λ h. c.sift_down.ensures.kept (ordered
 -- an entry of a heap is not greater than its parent
 pub returns-then-not-at_most-clause-kept : goal.returns-then-not-at_most-clause-kept
 returns-then-not-at_most-clause-kept g c = λ h.
-    let xs = c.args.entries.now in let at = c.args.place in let p = (at - 1) / c.max.result in
+    let xs = c.args.entries.now in let at = c.args.place in let p = c.parent-parent.result in
     let high : 0 < at = omega (arith, c.if-place-eq0.false) in
-    let is : p ≡ parent g.row.D at = ap (λ a. (at - 1) / a) c.max.ensures in
+    let is : p ≡ parent g.row.D at = c.parent-parent.ensures in
     let near : p < length xs = omega (arith, is, parent-below g.row.D at high, c.requires) in
     let greater = is_greater _ (sym c.at_most.ensures.answer ∙ c.if-not-at_most.true) in
     let child = slice_get-get_or xs at _ c.requires in
@@ -84,9 +84,9 @@ returns-then-not-at_most-clause-kept g c = λ h.
 
 pub returns-then-not-at_most-clause-follow : goal.returns-then-not-at_most-clause-follow
 returns-then-not-at_most-clause-follow g c =
-    let xs = c.args.entries.now in let at = c.args.place in let p = (at - 1) / c.max.result in
+    let xs = c.args.entries.now in let at = c.args.place in let p = c.parent-parent.result in
     let high : 0 < at = omega (arith, c.if-place-eq0.false) in
-    let is : p ≡ parent g.row.D at = ap (λ a. (at - 1) / a) c.max.ensures in
+    let is : p ≡ parent g.row.D at = c.parent-parent.ensures in
     let near : p < length xs = omega (arith, is, parent-below g.row.D at high, c.requires) in
     follow_on (IsPermutation-swap xs c.exchange.new.entries at p c.requires near c.exchange.ensures.entries) c.sift_up.ensures.follow (follow c.exchange.ensures.rights)
 

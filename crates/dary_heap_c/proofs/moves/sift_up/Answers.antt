@@ -13,8 +13,8 @@ pub returns-then-at_most-clause-sifted : goal.returns-then-at_most-clause-sifted
 returns-then-at_most-clause-sifted g c =
     let before = c.loop-at.invariant in
     let xs = c.loop-at.entries in let at = c.loop-at.at in
-    let p = (at - 1) / c.max.result in
-    let is : p ≡ parent g.row.D at = ap (λ a. (at - 1) / a) c.max.ensures in
+    let p = c.parent-parent.result in
+    let is : p ≡ parent g.row.D at = c.parent-parent.ensures in
     let below : parent g.row.D at < at = parent-below g.row.D at c.loop-at-test.true in
     let answer = sym c.at_most.ensures.answer ∙ c.if-at_most.true in
     let near : p < length xs = omega (arith, before.there) in
@@ -25,9 +25,9 @@ pub loop-at-preserved : goal.loop-at-preserved
 loop-at-preserved g c =
     let before = c.loop-at.invariant in
     let xs = c.loop-at.entries in let ys = c.exchange.new.entries in let at = c.loop-at.at in
-    let p = (at - 1) / c.max.result in
+    let p = c.parent-parent.result in
     let up = c.loop-at-test.true in
-    let is : p ≡ parent g.row.D at = ap (λ a. (at - 1) / a) c.max.ensures in
+    let is : p ≡ parent g.row.D at = c.parent-parent.ensures in
     let below : parent g.row.D at < at = parent-below g.row.D at up in
     let near : p < length xs = omega (arith, before.there) in
     let moved = IsPermutation-swap xs ys at p before.there near c.exchange.ensures.entries in

@@ -52,10 +52,5 @@ change-requires-clause-there g c =
     let inside : c.in-Some.at < length c.as_slice.result.now = slice_get_within c.as_slice.result.now c.in-Some.at found.entry found.there in
     omega (arith, inside, ap length c.as_slice.ensures.value, ap length c.as_mut_slice.ensures.value)
 
-pub returns-in-Ok-clause-gets : goal.returns-in-Ok-clause-gets
-returns-in-Ok-clause-gets g c = gets_new c.args.key c.args.item c.args.slots.now.items c.add.new.slots.items c.in-Ok.ensures.bag (rw c.as_slice.ensures.value at c.in_default.ensures.none)
-
-pub returns-in-Ok-clause-counted : goal.returns-in-Ok-clause-counted
-returns-in-Ok-clause-counted g c =
-    let none = rw c.as_slice.ensures.value at c.in_default.ensures.none in
-    record { new = λ absent. c.in-Ok.ensures.counted; held = λ at h. absurd (none.none at h.entry h.there h.has) }
+pub returns-in_default-clause-gets : goal.returns-in_default-clause-gets
+returns-in_default-clause-gets g c = gets_new c.args.key c.args.item c.args.slots.now.items c.add.new.slots.items c.in_ok-add.ensures.bag (rw c.as_slice.ensures.value at c.in_default.ensures.none)

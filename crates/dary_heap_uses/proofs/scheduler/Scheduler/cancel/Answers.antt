@@ -1,5 +1,6 @@
-use Rattle.dary_heap_uses.proofs.Scheduling.{numbered_lost}
+use Rattle.dary_heap_uses.proofs.Scheduling.{numbered_left}
+use Rattle.indexed_heap.specs.Entries.{entries_of}
 use Rattle.dary_heap_uses.proofs.scheduler.Scheduler.cancel.Goals as goal
 
 pub invariant_of-self : goal.invariant_of-self
-invariant_of-self g c = numbered_lost c.args.id _ _ _ _ c.remove.ensures.loses c.self.invariant
+invariant_of-self g c = numbered_left c.self.inside.jobs.entries (entries_of c.args.id c.remove.result) _ _ c.remove.ensures.loses.bag c.self.invariant

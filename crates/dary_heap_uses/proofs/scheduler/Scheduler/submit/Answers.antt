@@ -1,6 +1,6 @@
-use Rattle.dary_heap_uses.proofs.Common.{refl}
-use Rattle.dary_heap_uses.proofs.Scheduling.{numbered_got, numbered_more}
+use Rattle.dary_heap_uses.proofs.Scheduling.{numbered_left, numbered_more}
+use Rattle.indexed_heap.specs.Entries.{entries_of}
 use Rattle.dary_heap_uses.proofs.scheduler.Scheduler.submit.Goals as goal
 
 pub invariant_of-self : goal.invariant_of-self
-invariant_of-self g c = numbered_got c.args.id _ _ _ _ _ c.in-Ok.ensures.gets (numbered_more _ _ _ refl c.self.invariant)
+invariant_of-self g c = numbered_left _ (entries_of c.args.id c.in-Ok.before) _ _ c.in-Ok.ensures.gets.bag (numbered_more _ _ c.self.invariant)

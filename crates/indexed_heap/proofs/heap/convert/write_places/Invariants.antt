@@ -1,0 +1,8 @@
+use Rattle.dary_heap.proofs.Common.{◌≡◌, ℕ, ◌<◌, Some, length, slice_get}
+use Rattle.indexed_heap.proofs.heap.convert.write_places.Given as goal
+
+abbrev pub invariant-loop-place : goal.invariant-loop-place
+invariant-loop-place g l = record {
+  written : (i : ℕ) (slot : ℕ × g.row.T.Denot) → i < l.place → slice_get l.slots i ≡ Some slot → slice_get l.places slot.0 ≡ Some i;
+  long : length l.places ≡ length l.initial.places;
+}
