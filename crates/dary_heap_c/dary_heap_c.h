@@ -128,7 +128,7 @@ DARY_HEAP_FUNCTION(push, *items, size_t len, size_t arity);
 DARY_HEAP_FUNCTION(pop, *items, size_t len, size_t arity);
 
 /* dheap_max_replace_*, dheap_min_replace_*: the items were a heap, and then items[0] was overwritten by anything.
- * They are a heap afterwards. If len is 0, nothing happens.
+ * They are a heap afterwards. Items that are a heap already stay where they are. If len is 0, nothing happens.
  *
  * This does the work of a pop and a push in one way down. The new item is compared on its way down, so one that
  * stays near the front costs little. One that sinks to the last depth takes the arity in comparisons for each

@@ -52,6 +52,7 @@ pub use Rattle.dary_heap.specs.Loan.{IsExceeded, IsOnLoan-written}
 pub use Rattle.dary_heap.specs.Machine.{Act, Acts, Append, Ask, Asked, Changed, Clear, Command, Done, Drain, DrainSorted, End, Ends, Extend, ExtendRefused, Len, Loan, Loaned, Old, Pop, PopIf}
 pub use Rattle.dary_heap.specs.Machine.{Popped, Pops, PopsInTurn, Push, Pushed, PutBack, Refresh, Reply, Reserve, Retain, Seen, Shrink, Size, Step, Steps, TakeOut, Taken, Write, last_state}
 pub use Rattle.dary_heap.specs.sift.Moving.{ComesTo, Exceeds, GoesDown, GoesDownBy, SiftsDown, SiftsToBottom, SiftsUp}
+pub use Rattle.dary_heap.specs.Path.{GoesUp, GoesUpBy}
 pub use Rattle.dary_heap.specs.PeekMut.{loaned}
 pub use Rattle.dary_heap.specs.Popping.{GivesDescending, IsDescending, IsGivenDescending, IsPop}
 pub use Rattle.dary_heap.specs.Run.{IsServed, Runs, Serves, room, sure_after}

@@ -8,6 +8,7 @@ pub mod Common
 pub mod Depth
 pub mod Fronts
 pub mod Order
+pub mod Path
 pub mod Popping
 pub use Bags.*
 pub use Common.*

@@ -12,6 +12,7 @@ pub mod HeapOrder
 pub mod LoanWrites
 pub mod Loan
 pub mod Machine
+pub mod Path
 pub mod PeekMut
 pub mod Popping
 pub mod Reading

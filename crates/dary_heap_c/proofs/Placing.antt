@@ -1,160 +1,192 @@
 -- What keeps places right.
-use Rattle.dary_heap.proofs.Common.{◌≡◌, ◌≢◌, ℕ, ◌<◌, List, [], ◌∷◌, ◌++◌, length, set, sym, ap, ◌∙◌, subst, arith, inl, inr, Some, slice_get, cases_eq, cases_lt, IsPermutation, IsPermutation-sym}
-use Rattle.dary_heap.proofs.Common.{Contains-permutation, length-append, length-set, length_permutation, refl, slice_get-get_or, slice_get_within, get_or, get_or_default, get_or_from_slice_get}
-use Rattle.dary_heap.proofs.Order.{Exchanges, slice_get-set_other, slice_get-append, slice_get-push}
-use Rattle.indexed_heap.proofs.Placing.{slice_get-set_same}
+use Rattle.dary_heap.proofs.Common.{◌≡◌, ◌≢◌, ◌⊎◌, ◌-◌, ◌<◌, ◌≤◌, ◌∷◌, ◌++◌, ◌∙◌, ℕ, List, [], length, map, set, get_or, swap, refl, sym, ap, subst, arith, inl, inr, Some, slice_get}
+use Rattle.dary_heap.proofs.Common.{cases_eq, cases_lt, IsPermutation, IsPermutation-append_left, IsPermutation-sym, IsPermutation-trans, Contains-permutation, IsDistinct}
+use Rattle.dary_heap.proofs.Common.{IsDistinct-IsPermutation, nat_eq, nat_eq_equiv, ne_eqb, eqb-false, Ordering, IsHeapOrdered, IsHeapOrderedButAt, length-append, length-map}
+use Rattle.dary_heap.proofs.Common.{length-set, length_permutation, get_or-set_same, get_or_from_slice_get, slice_get-get_or, slice_get_within}
+use Rattle.dary_heap.proofs.Depth.{parent-below}
+use Rattle.dary_heap.proofs.Order.{Exchanges, exchanges, read, slice_get-set_other, slice_get-append, slice_get-push}
+use Rattle.dary_heap.proofs.Path.{GoesUpBy-above, above-le, next_on_path, on_path_or_still}
+use Rattle.dary_heap.proofs.sift.Parts.{whole}
+use Rattle.dary_heap.proofs.sift.Sorting.{moved_last}
+use Rattle.dary_heap.specs.HeapOrder.{parent}
+use Rattle.dary_heap.specs.Path.{GoesUp, IsOnPath}
+use Rattle.std.proofs.lemmas.List.Sorted.{IsPermutation-map, IsPermutation-swap}
+use Rattle.std.proofs.lemmas.Map.Keys.{IsDistinct-from_apart, apart_from_distinct}
+use Rattle.std.proofs.lemmas.Option.{slice_get-map}
+use Rattle.std.specs.Option.{option_map}
+use Rattle.std.specs.Prelude.{pos}
 use Rattle.dary_heap_c.specs.declared.entry.Entry.{Entry}
-use Rattle.dary_heap_c.specs.Places.{AreRight, AreRightButAt, Follow, HaveKeys, IsFree, Rights}
+use Rattle.dary_heap_c.specs.Places.{AreRight, AreRightOffPath, HaveKeys, IsFree, Rights}
 
--- an entry that is read at a place, whatever would be read past the end
-pub read_at : (xs : List Entry) (i : ℕ) (past : Entry) → i < length xs → get_or xs i past ≡ get_or xs i (get_or xs i past)
-read_at xs i past inside = get_or_default xs i past (get_or xs i past) inside
+-- what would be read past the end
+abbrev pub zero_entry : Entry
+zero_entry = record { key = pos 0; value = 0 }
 
-module _ {items : List Entry} {places : List ℕ} (h : AreRight items places) where
-  pub have_keys : HaveKeys (length places) items
-  have_keys = record {
-    below = λ i item there. slice_get_within places item.value i (h.right i item there);
-    distinct = λ i j a b there here same.
-        let left = h.right i a there in
-        let right = h.right j b here in
-        let both : slice_get places a.value ≡ slice_get places b.value = ap (slice_get places) same in
-        cc;
+-- a place that was written
+slice_get-set_same : {X : Type 0} (xs : List X) (at : ℕ) (x : X) → at < length xs → slice_get (set xs at x) at ≡ Some x
+slice_get-set_same xs at x inside = slice_get-get_or (set xs at x) at x (omega (arith, length-set xs at x)) ∙ ap Some (get_or-set_same xs at x x inside)
+
+-- the place of the item at the first place of a path is written, and the rest of the path is left
+module _ (D : ℕ) (xs : List Entry) (places : List ℕ) (at high : ℕ) (x : Entry) (there : slice_get xs at ≡ Some x) where
+  noted : HaveKeys (length places) xs → AreRightOffPath D at high xs places → (i : ℕ) (item : Entry) → (i ≢ at → IsOnPath D at high i → ⊥) → slice_get xs i ≡ Some item
+      → slice_get (set places x.value at) item.value ≡ Some i
+  noted keys h i item off here = elim (cases_eq i at) [
+    | inl is ↦
+        let now : slice_get xs at ≡ Some item = subst (λ (k : ℕ). slice_get xs k ≡ Some item) is here in
+        let same : item ≡ x = (cc) in
+        ap (λ (e : Entry). slice_get (set places x.value at) e.value) same ∙ slice_get-set_same places x.value at (keys.below at x there) ∙ ap Some (sym is)
+    | inr apart ↦ slice_get-set_other places x.value item.value at (λ same. apart (keys.distinct i at item x here there same)) ∙ h.elsewhere i item (off apart) here
+  ]
+
+  pub noted_next : HaveKeys (length places) xs → AreRightOffPath D at high xs places → AreRightOffPath D (parent D at) high xs (set places x.value at)
+  noted_next keys h = record { elsewhere = λ i item off here. noted keys h i item (λ apart on. off (next_on_path D at high i apart on)) here }
+
+  pub noted_last : at ≤ high → HaveKeys (length places) xs → AreRightOffPath D at high xs places → AreRight xs (set places x.value at)
+  noted_last ends keys h = record {
+    right = λ i item here. noted keys h i item (λ apart on.
+        let low = above-le D on.above_low.levels at in
+        let up = above-le D on.below_high.levels i in
+        apart (omega (arith, ends, low, on.above_low.there, up, on.below_high.there))) here;
   }
 
-  pub but_at : (place : ℕ) → AreRightButAt place items places
-  but_at place = record { elsewhere = λ i item apart there. h.right i item there }
+  pub noted_other : (value : ℕ) → IsFree value xs → slice_get (set places x.value at) value ≡ slice_get places value
+  noted_other value free = slice_get-set_other places x.value value at (λ same. free.none at x there (sym same))
 
--- the place of the item at a place is written
-module _ (xs : List Entry) (places : List ℕ) (at : ℕ) (x : Entry) (there : slice_get xs at ≡ Some x) where
-  pub noted : Rights at xs xs places (set places x.value at)
-  noted = record {
-    right = λ keys h. record {
-      right = λ i item here. elim (cases_eq i at) [
-        | inl is ↦
-            let now : slice_get xs at ≡ Some item = subst (λ (k : ℕ). slice_get xs k ≡ Some item) is here in
-            let same : item ≡ x = (cc) in
-            ap (λ (e : Entry). slice_get (set places x.value at) e.value) same ∙ slice_get-set_same places x.value at (keys.below at x there) ∙ ap Some (sym is)
-        | inr apart ↦ slice_get-set_other places x.value item.value at (λ same. apart (keys.distinct i at item x here there same)) ∙ h.elsewhere i item apart here
-      ];
-    };
-    others = λ value free. slice_get-set_other places x.value value at (λ same. free.none at x there (sym same));
-  }
-
--- two items change places, and their places are written
-module _ (xs ys : List Entry) (places : List ℕ) (a b : ℕ) (x y : Entry) (e : Exchanges xs ys a b) (x_is : slice_get ys a ≡ Some x) (y_is : slice_get ys b ≡ Some y) where
-  x_was : slice_get xs b ≡ Some x
-  x_was = sym e.first ∙ x_is
-
-  y_was : slice_get xs a ≡ Some y
-  y_was = sym e.second ∙ y_is
-
-  once : List ℕ
-  once = set places x.value a
-
-  exchanged_right : HaveKeys (length places) xs → AreRightButAt a xs places → AreRight ys (set (set places x.value a) y.value b)
-  exchanged_right keys h =
-      let first : x.value < length places = keys.below b x x_was in
-      let second : y.value < length (set places x.value a) = omega (arith, keys.below a y y_was, length-set places x.value a) in
-      record {
-        right = λ i item there. elim (cases_eq i b) [
-          | inl at ↦
-              let here : slice_get ys b ≡ Some item = subst (λ (k : ℕ). slice_get ys k ≡ Some item) at there in
-              let is : item ≡ y = (cc) in
-              ap (λ (s : Entry). slice_get (set (set places x.value a) y.value b) s.value) is ∙ slice_get-set_same (set places x.value a) y.value b second ∙ ap Some (sym at)
-          | inr apart ↦ elim (cases_eq i a) [
-            | inl at ↦
-                let here : slice_get ys a ≡ Some item = subst (λ (k : ℕ). slice_get ys k ≡ Some item) at there in
-                let is : item ≡ x = (cc) in
-                let was : slice_get xs b ≡ Some item = sym e.first ∙ here in
-                let other : item.value ≢ y.value = λ same. apart (at ∙ sym (keys.distinct b a item y was y_was same)) in
-                slice_get-set_other (set places x.value a) y.value item.value b other ∙ ap (λ (s : Entry). slice_get (set places x.value a) s.value) is
-                ∙ slice_get-set_same places x.value a first ∙ ap Some (sym at)
-            | inr away ↦
-                let was : slice_get xs i ≡ Some item = sym (e.others i away apart) ∙ there in
-                let not_x : item.value ≢ x.value = λ same. apart (keys.distinct i b item x was x_was same) in
-                let not_y : item.value ≢ y.value = λ same. away (keys.distinct i a item y was y_was same) in
-                slice_get-set_other (set places x.value a) y.value item.value b not_y ∙ slice_get-set_other places x.value item.value a not_x ∙ h.elsewhere i item away was
-          ]
-        ];
-      }
-
-  pub exchanged : Rights a xs ys places (set (set places x.value a) y.value b)
-  exchanged = record {
-    right = exchanged_right;
-    others = λ value free. slice_get-set_other (set places x.value a) y.value value b (λ same. free.none a y y_was (sym same))
-        ∙ slice_get-set_other places x.value value a (λ same. free.none b x x_was (sym same));
-  }
+-- an item that has moved stood somewhere
+was_at : (xs ys : List Entry) → IsPermutation xs ys → (i : ℕ) (item : Entry) → slice_get ys i ≡ Some item → (k : ℕ) × (slice_get xs k ≡ Some item)
+was_at xs ys same i item there =
+    let was = Contains-permutation ys xs item (IsPermutation-sym xs ys same) (i, slice_get_within ys i item there, get_or_from_slice_get ys i item item there) in
+    (was.0, slice_get-get_or xs was.0 item was.1 ∙ ap Some was.2)
 
 -- a value that no item has when they have moved
-pub stays_free : {value : ℕ} (xs ys : List Entry) → IsPermutation xs ys → IsFree value xs → IsFree value ys
-stays_free xs ys same h = record {
-  none = λ i item there.
-      let was = Contains-permutation ys xs item (IsPermutation-sym xs ys same) (i, slice_get_within ys i item there, get_or_from_slice_get ys i item item there) in
-      h.none was.0 item (slice_get-get_or xs was.0 item was.1 ∙ ap Some was.2);
-}
+stays_free : {value : ℕ} (xs ys : List Entry) → IsPermutation xs ys → IsFree value xs → IsFree value ys
+stays_free xs ys same h = record { none = λ i item there. let was = was_at xs ys same i item there in h.none was.0 item was.1 }
 
-pub follow : {place : ℕ} {xs ys : List Entry} {before after : List ℕ} → Rights place xs ys before after → Follow xs ys before after
-follow {place = place} h = record { right = λ right. h.right (have_keys right) (but_at right place); others = h.others }
+-- the values of some items
+abbrev values : List Entry → List ℕ
+values xs = map (λ (e : Entry). e.value) xs
 
-pub stay : {xs : List Entry} {places : List ℕ} → Follow xs xs places places
-stay = record { right = λ h. h; others = λ value free. refl }
+value_at : (xs : List Entry) (i : ℕ) (item : Entry) (d : ℕ) → slice_get xs i ≡ Some item → get_or (values xs) i d ≡ item.value
+value_at xs i item d there = get_or_from_slice_get (values xs) i item.value d (slice_get-map (λ (e : Entry). e.value) xs i ∙ ap (option_map (λ (e : Entry). e.value)) there)
 
-module _ {xs ys zs : List Entry} {before now after : List ℕ} (same : IsPermutation xs ys) (then_on : Follow ys zs now after) where
-  pub follow_on : Follow xs ys before now → Follow xs zs before after
-  follow_on h = record {
-    right = λ right. then_on.right (h.right right);
-    others = λ value none. then_on.others value (stays_free xs ys same none) ∙ h.others value none;
+module _ (xs : List Entry) where
+  all_apart : {limit : ℕ} → HaveKeys limit xs → IsDistinct nat_eq (values xs)
+  all_apart keys = IsDistinct-from_apart nat_eq (values xs) (λ i j d before inside.
+      let within : j < length xs = omega (arith, inside, length-map xs (λ (e : Entry). e.value)) in
+      let a = read xs i (omega (arith, before, within)) in
+      let b = read xs j within in
+      ne_eqb _ _ (λ same. let one = keys.distinct i j a.0 b.0 a.1 b.1 (sym (value_at xs i a.0 d a.1) ∙ same ∙ value_at xs j b.0 d b.1) in omega (arith, one, before)))
+
+  one_before : IsDistinct nat_eq (values xs) → (i j : ℕ) (a b : Entry) → slice_get xs i ≡ Some a → slice_get xs j ≡ Some b → a.value ≡ b.value → i < j → ⊥
+  one_before h i j a b there here same before =
+      let inside : j < length (values xs) = omega (arith, slice_get_within xs j b here, length-map xs (λ (e : Entry). e.value)) in
+      eqb-false _ _ (apart_from_distinct nat_eq (values xs) i j 0 h before inside) (value_at xs i a 0 there ∙ same ∙ sym (value_at xs j b 0 here))
+
+-- the values of items that have moved
+keys_moved : {limit : ℕ} (xs ys : List Entry) → IsPermutation xs ys → HaveKeys limit xs → HaveKeys limit ys
+keys_moved xs ys same keys =
+    let apart = IsDistinct-IsPermutation nat_eq nat_eq_equiv.symm (values xs) (values ys) (IsPermutation-map (λ (e : Entry). e.value) xs ys same) (all_apart xs keys) in
+    record {
+      below = λ i item there. let was = was_at xs ys same i item there in keys.below was.0 item was.1;
+      distinct = λ i j a b there here equal. elim (cases_lt i j) [
+        | inl before ↦ absurd (one_before ys apart i j a b there here equal before)
+        | inr from ↦ elim (cases_lt j i) [
+          | inl before ↦ absurd (one_before ys apart j i b a here there (sym equal) before)
+          | inr to ↦ omega (arith, from, to)
+        ]
+      ];
+    }
+
+-- items moved along a path, and their places are written
+module _ (D low high : ℕ) (xs ys : List Entry) (before after : List ℕ) (same : IsPermutation xs ys) (right : HaveKeys (length before) ys → AreRightOffPath D low high ys before → AreRight ys after)
+    (others : (value : ℕ) → IsFree value ys → slice_get after value ≡ slice_get before value) where
+  moved : (from : ℕ) → IsOnPath D low high from → ((i : ℕ) → IsOnPath D low high i ⊎ (slice_get ys i ≡ slice_get xs i)) → Rights from xs ys before after
+  moved from on still = record {
+    right = λ keys h. right (keys_moved xs ys same keys) (record {
+      elsewhere = λ i item off here. elim (still i) [
+        | inl along ↦ absurd (off along)
+        | inr stays ↦ h.elsewhere i item (λ is. off (subst (IsOnPath D low high) (sym is) on)) (sym stays ∙ here)
+      ];
+    });
+    others = λ value free. others value (stays_free xs ys same free);
   }
 
-  pub rights_on : {place : ℕ} → Rights place xs ys before now → Rights place xs zs before after
-  rights_on h = record {
-    right = λ keys right. then_on.right (h.right keys right);
-    others = λ value none. then_on.others value (stays_free xs ys same none) ∙ h.others value none;
-  }
+  pub went_up : low < length xs → GoesUp D low high xs ys → Rights low xs ys before after
+  went_up inside goes = moved low (record { above_low = record { levels = 0; there = refl }; below_high = GoesUpBy-above D goes.levels low high xs ys goes.way })
+      (on_path_or_still D low high xs ys inside goes)
 
--- an item stays behind those that move
-module _ (xs ys : List Entry) (last : Entry) {before after : List ℕ} (same : IsPermutation xs ys) (h : Follow xs ys before after) where
-  front : (i : ℕ) (item : Entry) → slice_get xs i ≡ Some item → slice_get (xs ++ last ∷ []) i ≡ Some item
-  front i item there = slice_get-append xs (last ∷ []) i (slice_get_within xs i item there) ∙ there
+  pub went_down : low < length ys → GoesUp D low high ys xs → Rights high xs ys before after
+  went_down inside goes = moved high (record { above_low = GoesUpBy-above D goes.levels low high ys xs goes.way; below_high = record { levels = 0; there = refl } })
+      (λ i. elim (on_path_or_still D low high ys xs inside goes i) [ inl on ↦ inl on | inr stays ↦ inr (sym stays) ])
 
-  behind_right : AreRight (xs ++ last ∷ []) before → AreRight (ys ++ last ∷ []) after
-  behind_right right =
-      let moved = h.right (record { right = λ i item there. right.right i item (front i item there) }) in
-      let keys = have_keys right in
-      let end : slice_get (xs ++ last ∷ []) (length xs) ≡ Some last = slice_get-push xs last in
-      let none : IsFree last.value xs = record {
-        none = λ i item there is. let at : i ≡ length xs = keys.distinct i (length xs) item last (front i item there) end is in
-            let inside = slice_get_within xs i item there in absurd (omega (arith, at, inside));
-      } in
-      let long = length_permutation xs ys same in
-      record {
-        right = λ i item there. elim (cases_lt i (length ys)) [
-          | inl inside ↦ moved.right i item (sym (slice_get-append ys (last ∷ []) i inside) ∙ there)
-          | inr past ↦
-              let within = slice_get_within (ys ++ last ∷ []) i item there in
-              let at : i ≡ length ys = omega (arith, past, within, length-append ys (last ∷ [])) in
-              let here : slice_get (ys ++ last ∷ []) (length ys) ≡ Some item = subst (λ (k : ℕ). slice_get (ys ++ last ∷ []) k ≡ Some item) at there in
-              let is : item ≡ last = (let found = slice_get-push ys last in cc) in
-              let same_place : length xs ≡ i = omega (arith, at, long) in
-              ap (λ (s : Entry). slice_get after s.value) is ∙ h.others last.value none ∙ right.right (length xs) last end ∙ ap Some same_place
-        ];
-      }
+-- the item at a place changed places with the last, whose place is written
+module _ (xs rest : List Entry) (last : Entry) (place : ℕ) (inside : place < length xs) (is : swap xs place (length xs - 1) ≡ rest ++ last ∷ []) where
+  exchange : Exchanges xs (rest ++ last ∷ []) place (length xs - 1)
+  exchange = exchanges xs (rest ++ last ∷ []) place (length xs - 1) inside (omega (arith, inside)) (sym is)
 
-  pub behind : Follow (xs ++ last ∷ []) (ys ++ last ∷ []) before after
-  behind = record {
-    right = behind_right;
-    others = λ value none. h.others value (record { none = λ i item there. none.none i item (front i item there) });
-  }
+  pub one_less : length rest ≡ length xs - 1
+  one_less = omega (arith, exchange.len, length-append rest (last ∷ []))
 
--- an item was put behind the others, which move then
-pub removed : {place : ℕ} {before now after : List ℕ} (xs ys rest zs : List Entry) (last : Entry) → ys ≡ rest ++ last ∷ [] → IsPermutation xs ys → IsPermutation rest zs
-    → Rights place xs ys before now → Follow rest zs now after → Rights place xs (zs ++ last ∷ []) before after
-removed {place} {before} {now} xs ys rest zs last is moved same rights sifted =
-    rights_on (subst (IsPermutation xs) is moved) (behind rest zs last same sifted) (subst (λ (them : List Entry). Rights place xs them before now) is rights)
+  was_last : slice_get xs place ≡ Some last
+  was_last = sym exchange.second ∙ ap (slice_get (rest ++ last ∷ [])) (sym one_less) ∙ slice_get-push rest last
 
--- of no items each place is right
-pub none_right : (place : ℕ) (xs : List Entry) (places : List ℕ) → length xs ≡ 0 → Rights place xs xs places places
-none_right place xs places none = record {
-  right = λ keys h. record { right = λ i item there. let inside = slice_get_within xs i item there in absurd (omega (arith, inside, none)) };
+  pub others_stay : (k : ℕ) → k ≢ place → k < length rest → slice_get rest k ≡ slice_get xs k
+  others_stay k other within = sym (slice_get-append rest (last ∷ []) k within) ∙ exchange.others k other (omega (arith, within, one_less))
+
+  whole_bag : IsPermutation xs (rest ++ last ∷ [])
+  whole_bag = IsPermutation-swap xs (rest ++ last ∷ []) place (length xs - 1) inside (omega (arith, inside)) (sym is)
+
+  module _ (zs : List Entry) (bag : IsPermutation rest zs) where
+    pub bag_behind : IsPermutation xs (zs ++ last ∷ [])
+    bag_behind = IsPermutation-trans xs (rest ++ last ∷ []) (zs ++ last ∷ []) whole_bag (IsPermutation-append_left (last ∷ []) rest zs bag)
+
+    pub comes_last : slice_get (zs ++ last ∷ []) (length (zs ++ last ∷ []) - 1) ≡ slice_get xs place
+    comes_last = moved_last zs last ∙ sym was_last
+
+    -- the places of the others become right, and that of the last stays
+    pub removed : (before after : List ℕ) → Rights place rest zs (set before last.value (length xs - 1)) after → Rights place xs (zs ++ last ∷ []) before after
+    removed before after h = record {
+      right = λ keys right.
+          let at = length xs - 1 in
+          let now = set before last.value at in
+          let moved = keys_moved xs (rest ++ last ∷ []) whole_bag keys in
+          let front : (i : ℕ) (item : Entry) → slice_get rest i ≡ Some item → slice_get (rest ++ last ∷ []) i ≡ Some item = λ i item there.
+          slice_get-append rest (last ∷ []) i (slice_get_within rest i item there) ∙ there in
+          let other : (i : ℕ) (item : Entry) → slice_get rest i ≡ Some item → item.value ≢ last.value = λ i item there equal.
+          let one = moved.distinct i (length rest) item last (front i item there) (slice_get-push rest last) equal in omega (arith, one, slice_get_within rest i item there) in
+          let kept : HaveKeys (length now) rest = record {
+            below = λ i item there. omega (arith, moved.below i item (front i item there), length-set before last.value at);
+            distinct = λ i j a b there here equal. moved.distinct i j a b (front i a there) (front j b here) equal;
+          } in
+          let sifted = h.right kept (record {
+            elsewhere = λ i item apart there. slice_get-set_other before last.value item.value at (other i item there)
+                ∙ right.elsewhere i item apart (sym (others_stay i apart (slice_get_within rest i item there)) ∙ there);
+          }) in
+          let behind : slice_get after last.value ≡ Some at =
+          h.others last.value (record { none = other }) ∙ slice_get-set_same before last.value at (keys.below place last was_last) in
+          record {
+            right = λ i item there. elim (cases_lt i (length zs)) [
+              | inl within ↦ sifted.right i item (sym (slice_get-append zs (last ∷ []) i within) ∙ there)
+              | inr past ↦
+                  let within = slice_get_within (zs ++ last ∷ []) i item there in
+                  let here : i ≡ length zs = omega (arith, past, within, length-append zs (last ∷ [])) in
+                  let found = subst (λ (k : ℕ). slice_get (zs ++ last ∷ []) k ≡ Some item) here there in
+                  let same : item ≡ last = (let end = slice_get-push zs last in cc) in
+                  ap (λ (e : Entry). slice_get after e.value) same ∙ behind ∙ ap Some (omega (arith, here, one_less, length_permutation rest zs bag))
+            ];
+          };
+      others = λ value free. h.others value (record {
+        none = λ i item there. (stays_free xs (rest ++ last ∷ []) whole_bag free).none i item (slice_get-append rest (last ∷ []) i (slice_get_within rest i item there) ∙ there);
+      }) ∙ slice_get-set_other before last.value value (length xs - 1) (λ equal. free.none place last was_last (sym equal));
+    }
+
+-- there is no item at the place
+pub none_there : (place : ℕ) (xs : List Entry) (places : List ℕ) → length xs ≤ place → Rights place xs xs places places
+none_there place xs places none = record {
+  right = λ keys h. record { right = λ i item there. h.elsewhere i item (let within = slice_get_within xs i item there in omega (arith, within, none)) there };
   others = λ value free. refl;
 }
+
+-- heap order but for an item that isn't there
+pub behind_ordered : {cmp : Entry → Entry → Ordering} (D : ℕ) (xs : List Entry) (place : ℕ) → length xs ≤ place → IsHeapOrderedButAt cmp D place xs → IsHeapOrdered cmp D xs
+behind_ordered D xs place past h = whole D xs place past (record { below_parent = λ i pos to low. h.elsewhere i pos (omega (arith, to)) (omega (arith, to, parent-below D i pos)) })

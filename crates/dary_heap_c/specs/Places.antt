@@ -1,6 +1,7 @@
 -- An array of places, which has at the value of each entry the place at which the entry stands.
 use Rattle.std.specs.Prelude.{◌≡◌, ◌≢◌, ℕ, ◌<◌, Bool, List, length, slice_get, Some}
 use Rattle.std.specs.Bool.{OnTrue, OnFalse}
+use Rattle.dary_heap.specs.Path.{IsOnPath}
 use Rattle.dary_heap_c.specs.declared.entry.Entry.{Entry}
 
 -- no two items have the same value, and each value is below the limit
@@ -20,6 +21,10 @@ pub record AreRight (items : List Entry) (places : List ℕ) : Type 0 where
 pub record AreRightButAt (place : ℕ) (items : List Entry) (places : List ℕ) : Type 0 where
   pub elsewhere : (i : ℕ) (item : Entry) → i ≢ place → slice_get items i ≡ Some item → slice_get places item.value ≡ Some i
 
+-- the same but for those of the items on the path from place `low` up to place `high`
+pub record AreRightOffPath (D low high : ℕ) (items : List Entry) (places : List ℕ) : Type 0 where
+  pub elsewhere : (i : ℕ) (item : Entry) → (IsOnPath D low high i → ⊥) → slice_get items i ≡ Some item → slice_get places item.value ≡ Some i
+
 -- the places become right if they were right but for that of the item at place. Those of values that no item has stay, whatever the places were
 pub record Rights (place : ℕ) (old new : List Entry) (before after : List ℕ) : Type 0 where
   pub right : HaveKeys (length before) old → AreRightButAt place old before → AreRight new after
@@ -29,8 +34,3 @@ pub record Rights (place : ℕ) (old new : List Entry) (before after : List ℕ)
 pub record KeepsPlaces (place : ℕ) (done : Bool) (old new : List Entry) (before after : List ℕ) : Type 0 where
   pub rights : OnTrue done (Rights place old new before after)
   pub untouched : OnFalse done (after ≡ before)
-
--- as the items move, right places stay right, and those of values that no item has stay as they are. Only private functions speak of this
-pub record Follow (old new : List Entry) (before after : List ℕ) : Type 0 where
-  pub right : AreRight old before → AreRight new after
-  pub others : (value : ℕ) → IsFree value old → slice_get after value ≡ slice_get before value

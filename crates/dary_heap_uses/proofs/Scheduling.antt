@@ -1,17 +1,16 @@
 -- Turns of jobs that wait, and which job comes before the others.
-use Rattle.dary_heap_uses.proofs.Common.{turn_of, ◌++◌, came_first, ◌<◌, ◌≡◌, ◌≢◌, ℕ, ◌+◌, ◌≤◌, false, nat_eq, List, [], ◌∷◌, Option, Some, Result, Ok, Err, IsOk, length, length_permutation, map}
-use Rattle.dary_heap_uses.proofs.Common.{refl, slice_get-get_or, ap, ◌∙◌, sym, subst, arith, inl, inr, Contains, All-nil, All-cons, All-weaker, All-tail, recursion_from_All, All-permutation}
+use Rattle.dary_heap_uses.proofs.Common.{turn_of, ◌++◌, ◌<◌, ◌≡◌, ◌≢◌, ℕ, ◌+◌, false, nat_eq, List, [], ◌∷◌, Option, Some, map}
+use Rattle.dary_heap_uses.proofs.Common.{◌∙◌, sym, subst, arith, inl, inr, Contains, All-nil, All-cons, All-weaker, All-tail, recursion_from_All, All-permutation}
 use Rattle.dary_heap_uses.proofs.Common.{IsPermutation-map, IsPermutation-sym, nat_eq_equiv, unsigned_Decides, All-contains, All-contains_itself, Contains-map, All, nat_cmp, ordering_then, IsSameBag}
 use Rattle.dary_heap_uses.proofs.Common.{IsGreatest, came_later, ComesBefore, HasMoved, IsNumbered, submitted}
 use Rattle.dary_heap_uses.proofs.Taking.{comes_before}
 use Rattle.indexed_heap.proofs.Callers.{Gets-given, item_of-absent}
-use Rattle.indexed_heap.specs.Entries.{AreDistinct, Gets, IsAbsent, IsEntry, Loses, by_item, entries_of}
+use Rattle.indexed_heap.specs.Entries.{AreDistinct, Gets, IsAbsent, Loses, by_item, entries_of}
 use Rattle.std.proofs.lemmas.Bool.{false_from_ne_true}
 use Rattle.std.proofs.lemmas.Bool.Decides.{not_from_Decides}
 use Rattle.std.proofs.lemmas.List.Elements.{All-from_recursion}
 use Rattle.std.proofs.lemmas.Map.Keys.{IsDistinct-IsPermutation, IsDistinct-cons, IsDistinct-head, IsDistinct-tail}
 use Rattle.std.specs.List.{IsDistinct}
-use Rattle.std.specs.Result.{IfOk}
 use Rattle.dary_heap_uses.specs.declared.scheduler.Waiting.{Waiting}
 
 pub numbered_more : (turns : List ℕ) (came : ℕ) → IsNumbered turns came → IsNumbered (came ∷ turns) (came + 1)
@@ -67,21 +66,11 @@ module _ {J : Type 0} where
     abbrev moved : Waiting J
     moved = submitted priority was.turn.0 was.job
 
-    -- there is room for a job that was taken out
-    pub fits : (room ids : ℕ) → length old ≤ room → ((at key : ℕ) → IsEntry old at key → key < ids) → (length mid < room) × (id < ids)
-    fits room ids small below =
-        let in' = came_first (id, was) mid old (IsPermutation-sym old ((id, was) ∷ mid) lost.bag) in (
-          omega (arith, small, length_permutation old ((id, was) ∷ mid) lost.bag),
-          below in'.0 id record { entry = (id, was); there = slice_get-get_or old in'.0 (id, was) in'.1 ∙ ap Some in'.2; has = refl },
-        )
-
     -- a job that was taken out and put back at another priority has moved
-    pub has_moved : (r : Result (Option (Waiting J)) (Waiting J)) → IsOk r → IfOk r (λ given. Gets id moved mid given new) → IsAbsent id mid → AreDistinct mid → HasMoved id priority old new
-    has_moved (Ok given) ok gets gone once =
+    pub has_moved : (given : Option (Waiting J)) → Gets id moved mid given new → IsAbsent id mid → AreDistinct mid → HasMoved id priority old new
+    has_moved given gets gone once =
         let none = Gets-given id moved mid new given gets once ∙ item_of-absent id mid gone in
         record { was = was; others = mid; before = lost.bag; after = (subst (λ (g : Option (Waiting J)). Gets id moved mid g new) none gets).bag }
-    has_moved (Err back) ok gets gone once = absurd (cc)
 
-    pub numbered_moved : (r : Result (Option (Waiting J)) (Waiting J)) (came : ℕ) → IsOk r → IfOk r (λ given. Gets id moved mid given new) → IsNumbered (turns old) came → IsNumbered (turns new) came
-    numbered_moved (Ok given) came ok gets h = numbered_left ((id, moved) ∷ mid) (entries_of id given) new came gets.bag (numbered_bag old ((id, was) ∷ mid) came lost.bag h)
-    numbered_moved (Err back) came ok gets h = absurd (cc)
+    pub numbered_moved : (given : Option (Waiting J)) (came : ℕ) → Gets id moved mid given new → IsNumbered (turns old) came → IsNumbered (turns new) came
+    numbered_moved given came gets h = numbered_left ((id, moved) ∷ mid) (entries_of id given) new came gets.bag (numbered_bag old ((id, was) ∷ mid) came lost.bag h)

@@ -1,9 +1,9 @@
 //! A scheduler: jobs with ids wait at a priority, which may change, until they are taken out or cancelled. A heap
 //! doesn't say which of two equal items comes out first. So each job has a turn, which counts up, beside its priority.
-ghost use Rattle.std.specs.Prelude.{◌≡◌, ◌==◌, ◌+◌, ◌<◌, ◌≤◌, ◌⊎◌, ◌↔◌, [], ◌∷◌, All, length, map, IsOk, IfOk, IfErr, OnOk, OnErr, IsSome, IfSome, IfNone};
+ghost use Rattle.std.specs.Prelude.{◌≡◌, ◌==◌, ℕ, ◌+◌, ◌<◌, ◌≤◌, ◌⊎◌, ◌↔◌, [], ◌∷◌, All, length, map, IsOk, IfOk, IfErr, OnOk, OnErr, IsSome, IfSome, IfNone};
 ghost use Rattle.std.specs.Bool.{OnTrue, OnFalse};
 ghost use Rattle.dary_heap.specs.Bag.{IsSameBag};
-ghost use Rattle.indexed_heap.specs.Entries.{Gets, IsAbsent, Loses};
+ghost use Rattle.indexed_heap.specs.Entries.{Gets, IsAbsent, IsEntry, Loses};
 ghost use Rattle.dary_heap_uses.specs.Scheduling.{ComesBefore, HasMoved, IsNumbered, Schedule, submitted, turn_of};
 
 use indexed_heap::IndexedHeap;
@@ -98,21 +98,25 @@ impl<J> Scheduler<J> {
     }
 
     /// Reserves room for at least `additional` more jobs, with ids below `ids`. After `Ok` that many can be submitted
-    /// without an error. Fails if memory allocation fails, which happens only if some of that room was missing. The
-    /// jobs stay as they are.
+    /// without an error. If there is room already, it does nothing. Fails if memory allocation fails, which happens
+    /// only if some of that room was missing. The jobs stay as they are.
     pub fn reserve(&mut self, additional: usize, ids: usize) -> Result<(), AllocError>
         ensures waiting { self.new.waiting ≡ self.old.waiting }
         ensures came { self.new.came ≡ self.old.came }
         ensures room { OnOk result (length self.new.waiting + additional ≤ self.new.room) }
         ensures ids { OnOk result (ids ≤ self.new.ids) }
         ensures grows { (self.old.room ≤ self.new.room) × (self.old.ids ≤ self.new.ids) }
+        ensures kept { length self.old.waiting + additional ≤ self.old.room
+            → self.new.room ≡ self.old.room }
+        ensures keyed { ids ≤ self.old.ids → self.new.ids ≡ self.old.ids }
         ensures succeeds { length self.old.waiting + additional ≤ self.old.room
             → ids ≤ self.old.ids → IsOk result }
     {
         self.jobs.reserve(additional, ids)
     }
 
-    /// Submits a job. If a job of this id waits, the new one takes its place, and the old one is returned.
+    /// Submits a job. If a job of this id waits, the new one takes its place, and the old one is returned. That
+    /// allocates no memory.
     ///
     /// # Preconditions
     ///
@@ -130,6 +134,8 @@ impl<J> Scheduler<J> {
         ensures grows { (self.old.room ≤ self.new.room) × (self.old.ids ≤ self.new.ids) }
         ensures kept { length self.old.waiting < self.old.room → self.new.room ≡ self.old.room }
         ensures keyed { id < self.old.ids → self.new.ids ≡ self.old.ids }
+        ensures roomy { (at : ℕ) → IsEntry self.old.waiting at id
+            → self.new.room ≡ self.old.room }
         ensures succeeds { length self.old.waiting < self.old.room → id < self.old.ids
             → IsOk result }
         ensures full { OnErr result (IsAbsent id self.old.waiting
@@ -194,13 +200,14 @@ impl<J> Scheduler<J> {
         ensures ids { self.new.ids ≡ self.old.ids }
         ensures unchanged { OnFalse result (self.new ≡ self.old) }
     {
-        // For the proof: their contracts say that there is room for each job that waits, so the insert can't fail.
-        let _ = (self.jobs.capacity(), self.jobs.keys());
         let Some(mut waiting) = self.jobs.remove(id) else {
             return false;
         };
         waiting.priority = priority;
-        let _ = self.jobs.insert(id, waiting);
+        let Ok(_) = self.jobs.insert(id, waiting) else {
+            // There is the room that the job had.
+            unreachable!();
+        };
         true
     }
 }

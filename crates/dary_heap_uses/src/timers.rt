@@ -92,14 +92,17 @@ impl<const D: usize> TimerQueue<D> {
     }
 
     /// Reserves room for at least `additional` more timers, and for names below `names`. After `Ok` that many can
-    /// be set without an error. Fails if memory allocation fails, which happens only if some of that room was
-    /// missing. The timers stay as they are.
+    /// be set without an error. If there is room already, it does nothing. Fails if memory allocation fails, which
+    /// happens only if some of that room was missing. The timers stay as they are.
     pub fn reserve(&mut self, additional: usize, names: usize) -> Result<(), AllocError>
         ensures set { self.new.set ≡ self.old.set }
         ensures uncounted { self.new.comparisons ≡ self.old.comparisons }
         ensures room { OnOk result (length self.new.set + additional ≤ self.new.room) }
         ensures names { OnOk result (names ≤ self.new.names) }
         ensures grows { (self.old.room ≤ self.new.room) × (self.old.names ≤ self.new.names) }
+        ensures kept { length self.old.set + additional ≤ self.old.room
+            → self.new.room ≡ self.old.room }
+        ensures keyed { names ≤ self.old.names → self.new.names ≡ self.old.names }
         ensures succeeds { length self.old.set + additional ≤ self.old.room
             → names ≤ self.old.names → IsOk result }
     {
@@ -109,7 +112,8 @@ impl<const D: usize> TimerQueue<D> {
     /// Sets the timer of a name for a moment, and returns the moment for which it was set before, if it was.
     ///
     /// Fails if memory allocation fails, or if the name is `usize::MAX`. This happens only if the name has no timer,
-    /// and all room is in use or the name is past the room for names. The timers stay as they are.
+    /// and all room is in use or the name is past the room for names. The timers stay as they are, and no comparison
+    /// is made. For a name that has a timer it allocates no memory.
     pub fn set(&mut self, name: usize, moment: u64) -> Result<Option<u64>, AllocError>
         ensures set { IfOk result (λ before. Gets name moment self.old.set before self.new.set) }
         ensures counted { OnOk result (InsertsWithin D name self.old.set self.old.comparisons
@@ -117,11 +121,14 @@ impl<const D: usize> TimerQueue<D> {
         ensures grows { (self.old.room ≤ self.new.room) × (self.old.names ≤ self.new.names) }
         ensures kept { length self.old.set < self.old.room → self.new.room ≡ self.old.room }
         ensures keyed { name < self.old.names → self.new.names ≡ self.old.names }
+        ensures roomy { (at : ℕ) → IsEntry self.old.set at name
+            → self.new.room ≡ self.old.room }
         ensures succeeds { length self.old.set < self.old.room → name < self.old.names
             → IsOk result }
         ensures full { OnErr result (IsAbsent name self.old.set
             × ((length self.old.set ≡ self.old.room) ⊎ (self.old.names ≤ name))) }
         ensures unchanged { OnErr result (self.new.set ≡ self.old.set) }
+        ensures uncounted { OnErr result (self.new.comparisons ≡ self.old.comparisons) }
     {
         match self.waiting.insert(name, (moment, name)) {
             Ok(Some(before)) => Ok(Some(before.0)),
@@ -183,6 +190,7 @@ impl<const D: usize> TimerQueue<D> {
             → IsOk result }
         ensures unchanged { OnErr result (self.new ≡ self.old) }
         ensures none_added { OnErr result (due.new.items ≡ due.old.items) }
+        ensures list_room { OnErr result (vec_capacity due.new ≡ vec_capacity due.old) }
     {
         due.reserve(self.len())?;
         while let Some(timer) = self.take_next(now) {

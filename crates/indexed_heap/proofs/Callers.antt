@@ -6,7 +6,7 @@ use Rattle.indexed_heap.specs.Entries.{InsertsWithin, IsAbsent, IsEntry}
 use Rattle.indexed_heap.proofs.Bounding.{within_sink}
 pub use Rattle.indexed_heap.proofs.Reading.{none_there, one_item, item_of-absent, item_of-there, item_of-none, item_of-has, item_of-agrees, Gets-here, Gets-others, Gets-given, Loses-given}
 pub use Rattle.indexed_heap.proofs.Reading.{Loses-others, pop_loses}
-pub use Rattle.indexed_heap.proofs.Mapping.{Gets-all, Loses-all, showing, item_of-map, IsAbsent-map, Loses-map, Gets-map, AreDistinct-map, InsertsWithin-map}
+pub use Rattle.indexed_heap.proofs.Mapping.{Gets-all, Loses-all, showing, item_of-map, IsAbsent-map, Loses-map, Gets-map, AreDistinct-map, IsEntry-map, InsertsWithin-map}
 pub use Rattle.indexed_heap.proofs.Removing.{still_absent}
 
 -- no entry that is there has a key that is absent

@@ -1,5 +1,4 @@
 pub mod Placing
-pub mod Falling
 pub mod Changing
 pub mod Removing
 pub mod Bounding

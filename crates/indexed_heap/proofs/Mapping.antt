@@ -6,7 +6,7 @@ use Rattle.std.proofs.lemmas.List.Elements.{All-cons, All-tail}
 use Rattle.std.proofs.lemmas.List.Sorted.{All-permutation, IsPermutation-map}
 use Rattle.std.proofs.lemmas.Option.{slice_get-map}
 use Rattle.std.specs.Option.{option_map}
-use Rattle.indexed_heap.specs.Entries.{AreDistinct, Gets, InsertsWithin, IsAbsent, Loses, item_of}
+use Rattle.indexed_heap.specs.Entries.{AreDistinct, Gets, InsertsWithin, IsAbsent, IsEntry, Loses, item_of}
 use Rattle.indexed_heap.proofs.Reading.{item_of-absent, item_of-none}
 
 module _ {X : Type 0} (P : ℕ × X → Type 0) (key : ℕ) where
@@ -64,10 +64,14 @@ module _ {X Y : Type 0} (f : X → Y) where
         h.once i j x.0 y.0 x.1 y.1 (x.2 ∙ same ∙ sym y.2);
   }
 
+  -- where an entry is shown, one with its key stands
+  pub IsEntry-map : (key at : ℕ) (old : List (ℕ × X)) → IsEntry (map showing old) at key → IsEntry old at key
+  IsEntry-map key at old shown =
+      let x = shown_from (slice_get old at) shown.entry (sym (slice_get-map showing old at) ∙ shown.there) in
+      record { entry = x.0; there = x.1; has = x.2 ∙ shown.has }
+
   pub InsertsWithin-map : (D key before after : ℕ) (old : List (ℕ × X)) → InsertsWithin D key old before after → InsertsWithin D key (map showing old) before after
   InsertsWithin-map D key before after old h = record {
     new = λ absent. rw (length-map old showing) (h.new record { none = λ i entry there. absent.none i (showing entry) (slice_get-map showing old i ∙ ap (option_map showing) there) });
-    held = λ at shown.
-        let x = shown_from (slice_get old at) shown.entry (sym (slice_get-map showing old at) ∙ shown.there) in
-        rw (length-map old showing) (h.held at record { entry = x.0; there = x.1; has = x.2 ∙ shown.has });
+    held = λ at shown. rw (length-map old showing) (h.held at (IsEntry-map key at old shown));
   }

@@ -1,9 +1,12 @@
 -- What keeps places right.
 use Rattle.dary_heap.proofs.Common.{◌≡◌, ◌≢◌, ℕ, ◌<◌, ◌≤◌, Bool, true, false, if◌then◌else◌, List, [], length, nil_from_length, get_or, set, sym, ap, ◌∙◌, subst, arith, inl, inr, Some, slice_get}
-use Rattle.dary_heap.proofs.Common.{cases_eq, cases_lt, get_or-set_same, length-set, slice_get-get_or, slice_get_within}
-use Rattle.dary_heap.proofs.Order.{Exchanges, read, reads, slice_get-set_other}
+use Rattle.dary_heap.proofs.Common.{◌⊎◌, zero, suc, refl, parent, swap, cases_eq, cases_lt, get_or-set_same, length-set, slice_get-get_or, slice_get_within}
+use Rattle.dary_heap.proofs.Depth.{parent-below}
+use Rattle.dary_heap.proofs.Order.{Exchanges, exchanges, read, reads, slice_get-set_other}
+use Rattle.dary_heap.proofs.Path.{GoesUpBy-above, lone_on_path, next_on_path, on_path_or_still}
+use Rattle.dary_heap.specs.Path.{GoesUp, GoesUpBy, IsOnPath}
 use Rattle.indexed_heap.specs.Entries.{IsAbsent, IsEntry}
-use Rattle.indexed_heap.specs.Places.{AreRight, AreRightButAt}
+use Rattle.indexed_heap.specs.Places.{AreRight, AreRightButAt, AreRightOffPath}
 
 -- a place that was written
 pub slice_get-set_same : {X : Type 0} (xs : List X) (at : ℕ) (x : X) → at < length xs → slice_get (set xs at x) at ≡ Some x
@@ -72,44 +75,102 @@ module _ {X : Type 0} (xs ys : List (ℕ × X)) (places : List ℕ) (a b : ℕ) 
         ];
       }
 
--- the place of a slot that moves on is written anew later, so that it need not be written before
-module _ (places : List ℕ) (k j a b : ℕ) (has : k < length places) (other : j < length places) where
-  rewritten : (i : ℕ) → slice_get (set (set (set places k a) j a) k b) i ≡ slice_get (set (set places j a) k b) i
-  rewritten i =
-      let long : length (set places k a) ≡ length places = length-set places k a in
-      let once = set (set places k a) j a in
-      let so = set places j a in
-      elim (cases_eq i k) [
-        | inl here ↦
-            let left : slice_get (set once k b) k ≡ Some b = slice_get-set_same once k b (omega (arith, long, length-set (set places k a) j a)) in
-            let right : slice_get (set so k b) k ≡ Some b = slice_get-set_same so k b (omega (arith, length-set places j a)) in
-            ap (slice_get (set once k b)) here ∙ left ∙ sym right ∙ ap (slice_get (set so k b)) (sym here)
-        | inr apart ↦ slice_get-set_other once k i b apart ∙ elim (cases_eq i j) [
-          | inl here ↦
-              let left : slice_get once j ≡ Some a = slice_get-set_same (set places k a) j a (omega (arith, long)) in
-              let right : slice_get so j ≡ Some a = slice_get-set_same places j a other in
-              ap (slice_get once) here ∙ left ∙ sym right ∙ ap (slice_get so) (sym here)
-          | inr away ↦ slice_get-set_other (set places k a) j i a away ∙ slice_get-set_other places k i a apart ∙ sym (slice_get-set_other places j i a away)
-        ] ∙ sym (slice_get-set_other so k i b apart)
+module _ {X : Type 0} (D : ℕ) where
+  -- as a slot goes up by exchanges, there is a table of the same length for the slots before and after, or for neither
+  exchanged_along : (n from to : ℕ) (old new : List (ℕ × X)) → from < length old → GoesUpBy D n from to old new → (places : List ℕ) →
+      (AreRight old places → (after : List ℕ) × AreRight new after × (length after ≡ length places)) × (AreRight new places → (before : List ℕ) × AreRight old before × (length before ≡ length places))
+  exchanged_along zero from to old new inside way places =
+      (λ h. (places, subst (λ l. AreRight l places) (sym way.1) h, refl), λ h. (places, subst (λ l. AreRight l places) way.1 h, refl))
+  exchanged_along (suc n) from to old new inside way places =
+      let p = parent D from in
+      let below : p < from = parent-below D from way.0 in
+      let mid = swap old from p in
+      let there = exchanges old mid from p inside (omega (arith, inside)) refl in
+      let back : Exchanges mid old from p = record { len = sym there.len; first = sym there.second; second = sym there.first; others = λ k u v. sym (there.others k u v) } in
+      let a = read mid from (omega (arith, inside, there.len)) in
+      let b = read mid p (omega (arith, inside, there.len)) in
+      let c = read old from inside in
+      let d = read old p (omega (arith, inside)) in
+      let set_twice = λ (table : List ℕ) (x y : ℕ × X). set (set table x.0 from) y.0 p in
+      let long = λ (table : List ℕ) (x y : ℕ × X). length-set (set table x.0 from) y.0 p ∙ length-set table x.0 from in
+      let rest = exchanged_along n p to mid new (omega (arith, inside, there.len)) way.1 in (
+        λ h.
+            let once = set_twice places a.0 b.0 in
+            let more = (rest once).0 (exchanged old mid places from p a.0 b.0 h there a.1 b.1) in
+            (more.0, more.1, more.2 ∙ long places a.0 b.0),
+        λ h.
+            let less = (rest places).1 h in
+            (set_twice less.0 c.0 d.0, exchanged mid old less.0 from p c.0 d.0 less.1 back c.1 d.1, long less.0 c.0 d.0 ∙ less.2),
+      )
+
+-- a slot went along a path, and its own place isn't written
+module _ {X : Type 0} (D low high at : ℕ) (old new : List (ℕ × X)) (places all : List ℕ) (h : AreRightButAt at old places) (after : AreRight new all) (long : length all ≡ length places) where
+  pub right_off_path : IsOnPath D low high at → ((i : ℕ) → IsOnPath D low high i ⊎ (slice_get new i ≡ slice_get old i)) → AreRightOffPath D low high new places
+  right_off_path on either = record {
+    right = λ i slot there. elim (either i) [
+      | inl moved ↦ inl moved
+      | inr still ↦ elim (cases_eq i at) [
+        | inl here ↦ inl (subst (IsOnPath D low high) (sym here) on)
+        | inr apart ↦
+            let was : slice_get old i ≡ Some slot = sym still ∙ there in
+            let other : slot.0 ≢ h.slot.0 = λ same. apart (distinct h.right i at slot h.slot was h.there same) in
+            inr (sym (slice_get-set_other places h.slot.0 slot.0 at other) ∙ h.right.right i slot was)
       ]
+    ];
+    inside = λ i slot there. omega (arith, has_place after i slot there, long);
+    distinct = record { once = distinct after };
+  }
 
--- a slot changes places with the one whose place isn't written
-module _ {X : Type 0} (xs ys : List (ℕ × X)) (places : List ℕ) (a b : ℕ) (x : ℕ × X) (h : AreRightButAt a xs places) (e : Exchanges xs ys a b) (x_is : slice_get ys a ≡ Some x) where
-  carried_inside : x.0 < length places
-  carried_inside = omega (arith, exchanged_first xs ys (set places h.slot.0 a) a b x h.slot h.right e x_is (e.second ∙ h.there), length-set places h.slot.0 a)
+-- the slot at `at` went up to place `to`, or down
+module _ {X : Type 0} (D at to : ℕ) (old new : List (ℕ × X)) (places : List ℕ) (h : AreRightButAt at old places) where
+  pub went_up : GoesUp D at to old new → AreRightOffPath D at to new places
+  went_up goes =
+      let inside = slice_get_within old at h.slot h.there in
+      let table = (exchanged_along D goes.levels at to old new inside goes.way (set places h.slot.0 at)).0 h.right in
+      right_off_path D at to at old new places table.0 h table.1 (table.2 ∙ length-set places h.slot.0 at)
+      (record { above_low = record { levels = 0; there = refl }; below_high = GoesUpBy-above D goes.levels at to old new goes.way }) (on_path_or_still D at to old new inside goes)
 
-  pub carried : AreRightButAt b ys (set places x.0 a)
-  carried =
-      let all = exchanged xs ys (set places h.slot.0 a) a b x h.slot h.right e x_is (e.second ∙ h.there) in
-      record {
-        slot = h.slot;
-        there = e.second ∙ h.there;
-        inside = omega (arith, h.inside, length-set places x.0 a);
-        right = record { right = λ i slot there. sym (rewritten places h.slot.0 x.0 a b h.inside carried_inside slot.0) ∙ all.right i slot there };
-      }
+  pub went_down : to < length new → GoesUp D to at new old → AreRightOffPath D to at new places
+  went_down inside goes =
+      let table = (exchanged_along D goes.levels to at new old inside goes.way (set places h.slot.0 at)).1 h.right in
+      right_off_path D to at at old new places table.0 h table.1 (table.2 ∙ length-set places h.slot.0 at)
+      (record { above_low = GoesUpBy-above D goes.levels to at new old goes.way; below_high = record { levels = 0; there = refl } })
+      (λ i. elim (on_path_or_still D to at new old inside goes i) [ inl on ↦ inl on | inr still ↦ inr (sym still) ])
 
-  pub carried_bound : x.0 < length places
-  carried_bound = carried_inside
+module _ {X : Type 0} (D high at : ℕ) (slots : List (ℕ × X)) (places : List ℕ) (x : ℕ × X) (h : AreRightOffPath D at high slots places) (x_is : slice_get slots at ≡ Some x) where
+  -- the place of the slot at `at` is written
+  pub written_at : (i : ℕ) (slot : ℕ × X) → slice_get slots i ≡ Some slot → i ≡ at → slice_get (set places x.0 at) slot.0 ≡ Some i
+  written_at i slot there here =
+      let held : slice_get slots at ≡ Some slot = subst (λ (k : ℕ). slice_get slots k ≡ Some slot) here there in
+      let is : slot ≡ x = (cc) in
+      ap (λ (s : ℕ × X). slice_get (set places x.0 at) s.0) is ∙ slice_get-set_same places x.0 at (h.inside at x x_is) ∙ ap Some (sym here)
+
+  -- and that of no other
+  pub written_elsewhere : (i : ℕ) (slot : ℕ × X) → slice_get slots i ≡ Some slot → i ≢ at → slice_get (set places x.0 at) slot.0 ≡ slice_get places slot.0
+  written_elsewhere i slot there apart = slice_get-set_other places x.0 slot.0 at (λ same. apart (h.distinct.once i at slot x there x_is same))
+
+  -- the path goes on above it
+  pub written_path : AreRightOffPath D (parent D at) high slots (set places x.0 at)
+  written_path = record {
+    right = λ i slot there. elim (cases_eq i at) [
+      | inl here ↦ inr (written_at i slot there here)
+      | inr apart ↦ elim (h.right i slot there) [ inl on ↦ inl (next_on_path D at high i apart on) | inr was ↦ inr (written_elsewhere i slot there apart ∙ was) ]
+    ];
+    inside = λ i slot there. omega (arith, h.inside i slot there, length-set places x.0 at);
+    distinct = h.distinct;
+  }
+
+  -- or it is the last
+  pub written_all : high ≡ at → AreRight slots (set places x.0 at)
+  written_all top = record {
+    right = λ i slot there. elim (cases_eq i at) [
+      | inl here ↦ written_at i slot there here
+      | inr apart ↦ elim (h.right i slot there) [
+        | inl on ↦ absurd (apart (lone_on_path D at i (subst (λ (k : ℕ). IsOnPath D at k i) top on)))
+        | inr was ↦ written_elsewhere i slot there apart ∙ was
+      ]
+    ];
+  }
 
 -- a table that is right is so but at any slot
 pub right_but_at : {X : Type 0} (slots : List (ℕ × X)) (places : List ℕ) (at : ℕ) (slot : ℕ × X) → AreRight slots places → slice_get slots at ≡ Some slot → AreRightButAt at slots places

@@ -1,10 +1,11 @@
 -- The entries read as a map: the item of a key, and what each change of the entries makes of it.
-use Rattle.dary_heap.proofs.Common.{◌≡◌, ◌≢◌, ℕ, zero, suc, List, [], ◌∷◌, ◌++◌, Option, Some, None, Result, Ok, Err, if◌then◌else◌, refl, sym, ap, ◌∙◌, subst, arith, inl, inr, cases_eq, ne_eqb}
+use Rattle.dary_heap.proofs.Common.{◌≡◌, ◌≢◌, ◌<◌, ◌≤◌, ℕ, zero, suc, List, [], ◌∷◌, ◌++◌, length}
+use Rattle.dary_heap.proofs.Common.{length_permutation, Option, Some, None, Result, Ok, Err, if◌then◌else◌, refl, sym, ap, ◌∙◌, subst, arith, inl, inr, cases_eq, ne_eqb}
 use Rattle.dary_heap.proofs.Common.{slice_get, slice_get-get_or, slice_get_within, Contains, Contains-permutation, IsPermutation, IsPermutation-sym}
 use Rattle.dary_heap.proofs.Callers.{Contains-cases, Contains-first, Contains-later, IsPermutation-uncons}
 use Rattle.std.proofs.lemmas.Bool.{eq-eqb}
-use Rattle.std.specs.Prelude.{IfOk}
-use Rattle.indexed_heap.specs.Entries.{AreDistinct, Gets, IsAbsent, Loses, entries_of, item_of}
+use Rattle.std.specs.Prelude.{IfOk, IfSome}
+use Rattle.indexed_heap.specs.Entries.{AreDistinct, Gets, IsAbsent, IsEntry, Loses, entries_of, item_of}
 
 module _ {T : Type 0} where
   -- where an entry stands that is there
@@ -136,6 +137,15 @@ module _ {T : Type 0} (key : ℕ) where
   Loses-given old new (Some had) h once =
       let left = (key, had) ∷ new in
       sym (item_of-has key old had once (Contains-permutation left old (key, had) (IsPermutation-sym old left h.bag) (Contains-first (key, had) new)))
+
+  -- there is room for an entry that left
+  pub Loses-room : (old new : List (ℕ × T)) (given : Option T) (room keys : ℕ) → Loses key old given new → length old ≤ room → ((at : ℕ) → IsEntry old at key → key < keys) →
+      IfSome given (λ item. (length new < room) × (key < keys))
+  Loses-room old new None room keys h small below = tt
+  Loses-room old new (Some had) room keys h small below =
+      let left = (key, had) ∷ new in
+      let in' = Contains-permutation left old (key, had) (IsPermutation-sym old left h.bag) (Contains-first (key, had) new) in
+      (omega (arith, small, length_permutation old left h.bag), below in'.0 record { entry = (key, had); there = stands old (key, had) in'; has = refl })
 
   pub Loses-others : (old new : List (ℕ × T)) (given : Option T) → Loses key old given new → AreDistinct new → (k : ℕ) → k ≢ key → item_of k new ≡ item_of k old
   Loses-others old new given h once k apart =

@@ -1,10 +1,12 @@
 -- A slot that is added behind the others, and one that is taken out, whose place the last slot takes.
 use Rattle.dary_heap.proofs.Common.{◌≡◌, ◌≢◌, ℕ, ◌+◌, ◌-◌, ◌<◌, ◌≤◌, List, [], ◌∷◌, ◌++◌, length, get_or, set, refl, sym, ap, ◌∙◌, subst, arith, inl, inr, Some, slice_get, cases_eq, cases_lt}
-use Rattle.dary_heap.proofs.Common.{length-append, slice_get-get_or, slice_get_within, IsTotalOrder, Ordering, IsHeapOrdered, IsHeapOrderedButAt, IsPermutation, IsPermutation-sym, Contains}
+use Rattle.dary_heap.proofs.Common.{length-append, slice_get-get_or, slice_get_within, IsTotalOrder, Ordering, IsHeapOrdered, IsHeapOrderedBelowRoot, IsHeapOrderedButAt, HasGreaterChild, IsPermutation, IsPermutation-sym, Contains}
 use Rattle.dary_heap.proofs.Common.{Contains-permutation, get_or_from_slice_get}
-use Rattle.dary_heap.proofs.Order.{read, reads, slice_get-append, slice_get-set_other}
+use Rattle.dary_heap.proofs.Order.{below_root, read, reads, slice_get-append, slice_get-set_other}
 use Rattle.dary_heap.proofs.Callers.{ordered_but_at}
-use Rattle.dary_heap.proofs.sift.Parts.{still_but_at, whole, within}
+use Rattle.dary_heap.proofs.sift.Cost.{first_later}
+use Rattle.dary_heap.proofs.sift.Parts.{replaced, still_but_at, whole, within}
+use Rattle.dary_heap.proofs.sift.Sifting.{childless}
 use Rattle.std.proofs.lemmas.List.{get_or_push}
 use Rattle.indexed_heap.specs.Entries.{IsAbsent}
 use Rattle.indexed_heap.specs.Places.{AreRight, AreRightButAt}
@@ -39,6 +41,15 @@ added_but_at slots places new h absent room =
       inside = room;
       right = added slots places new h absent room;
     }
+
+-- heap order holds but for it, and it has no child
+pub added_ordered : {X : Type 0} {cmp : X → X → Ordering} (total : IsTotalOrder cmp) (D : ℕ) (xs : List X) (new : X) → IsHeapOrdered cmp D xs → IsHeapOrderedButAt cmp D (length xs) (xs ++ new ∷ [])
+added_ordered total D xs new h =
+    still_but_at D (length xs) xs (xs ++ new ∷ []) (λ k other inside. slice_get-append xs (new ∷ []) k (omega (arith, other, inside, length-append xs (new ∷ []))))
+    (ordered_but_at total D (length xs) xs h)
+
+pub added_childless : {X : Type 0} {cmp : X → X → Ordering} (D : ℕ) (xs : List X) (new : X) → HasGreaterChild cmp D (length xs) (xs ++ new ∷ []) → ⊥
+added_childless D xs new = childless D (length xs) (xs ++ new ∷ []) (omega (arith, length-append xs (new ∷ []), first_later D (length xs)))
 
 -- the item at the place is gone, and the last item stands there if it wasn't the last itself
 pub record Removes {X : Type 0} (xs ys : List X) (at : ℕ) : Type 0 where
@@ -88,6 +99,10 @@ module _ {X : Type 0} (xs ys : List (ℕ × X)) (places : List ℕ) (at : ℕ) (
 module _ {X : Type 0} {cmp : X → X → Ordering} (total : IsTotalOrder cmp) (D : ℕ) (xs ys : List X) (at : ℕ) (r : Removes xs ys at) (h : IsHeapOrdered cmp D xs) where
   pub moved_ordered : IsHeapOrderedButAt cmp D at ys
   moved_ordered = still_but_at D at xs ys r.others (ordered_but_at total D at xs h)
+
+  -- the slot that moved is the first
+  pub first_moved_ordered : at ≡ 0 → IsHeapOrderedBelowRoot cmp D ys
+  first_moved_ordered first = replaced D xs ys (λ k pos inside. r.others k (omega (arith, first)) inside) (below_root D xs h)
 
   pub last_ordered : length ys ≤ at → IsHeapOrdered cmp D ys
   last_ordered past = whole D ys (length ys) (omega arith) (within D (length ys) xs ys (λ k low. r.others k (omega arith) low) h)

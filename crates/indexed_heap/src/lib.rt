@@ -38,11 +38,9 @@
 //! # Modules
 //!
 //! [`heap`] has the heap, and [`iter`] its iterators. They stand on a table of places, in which each move of an entry
-//! is written down, and that on the crate `dary_heap`, whose judges compare the items.
-//! [`choice`] has the choice of the greatest child, which the library for C uses too.
+//! is written down, and that on the sifts and judges of the crate `dary_heap`.
 #![tactic(auto)]
 
-pub mod choice;
 pub mod heap;
 pub mod iter;
 mod judge;

@@ -1,5 +1,5 @@
 //! Slots with their places: what a call of the heap does to them.
-ghost use Rattle.std.specs.Prelude.{ℕ, ◌≡◌, ◌+◌, ◌-◌, ◌<◌, ◌⊎◌, false, ◌∷◌, true, length, slice_get, vec_len, vec_capacity, Some, IfSome, IfNone, IfOk, OnOk, OnErr, IfErr, IsOk, Contains, slice_index_or, [], ◌≢◌, ◌≤◌};
+ghost use Rattle.std.specs.Prelude.{ℕ, max, ◌↔◌, IsTrue, ◌≡◌, ◌+◌, ◌-◌, ◌<◌, ◌⊎◌, false, ◌∷◌, true, length, slice_get, vec_len, vec_capacity, Some, IfSome, IfNone, IfOk, OnOk, OnErr, IfErr, IsOk, Contains, slice_index_or, [], ◌≢◌, ◌≤◌};
 ghost use Rattle.std.specs.Bool.{OnTrue, OnFalse};
 ghost use Rattle.std.specs.declared.cmp.Ordering.TheVariants.{Greater};
 ghost use Rattle.dary_heap.specs.Bag.{IsSameBag};
@@ -8,7 +8,7 @@ ghost use Rattle.dary_heap.specs.HeapOrder.{IsHeapOrdered, depth};
 ghost use Rattle.indexed_heap.specs.Entries.{Gets, InsertsWithin, IsAbsent, IsEntry, IsReached, Loses, Raises};
 ghost use Rattle.indexed_heap.specs.Places.{AreRight};
 
-use crate::moves::{fix, sift_down_to_bottom, sift_up};
+use crate::moves::{fix, sift_to_bottom, sift_up};
 use dary_heap::sift::Judge;
 use std::alloc::AllocError;
 use std::mem;
@@ -48,7 +48,7 @@ fn grow<T>(slots: &mut Vec<(usize, T)>, additional: usize) -> Result<(), AllocEr
 fn widen(places: &mut Vec<usize>, keys: usize) -> Result<(), AllocError>
     ensures kept { (k d : ℕ) → k < vec_len places.old
         → slice_index_or places.new.items k d ≡ slice_index_or places.old.items k d }
-    ensures keys { OnOk result (keys ≤ vec_len places.new) }
+    ensures keys { OnOk result (vec_len places.new ≡ max (vec_len places.old) keys) }
     ensures longer { vec_len places.old ≤ vec_len places.new }
     ensures same { keys ≤ vec_len places.old → vec_len places.new ≡ vec_len places.old }
     ensures succeeds { keys ≤ vec_len places.old → IsOk result }
@@ -70,7 +70,7 @@ pub(crate) fn reserve<T>(
     ensures slots { slots.new.items ≡ slots.old.items }
     ensures right { AreRight slots.new.items places.new.items }
     ensures room { OnOk result (vec_len slots.new + additional ≤ vec_capacity slots.new) }
-    ensures keyed { OnOk result (keys ≤ vec_len places.new) }
+    ensures keyed { OnOk result (vec_len places.new ≡ max (vec_len places.old) keys) }
     ensures capacity { vec_capacity slots.old ≤ vec_capacity slots.new }
     ensures keys { vec_len places.old ≤ vec_len places.new }
     ensures kept { vec_len slots.old + additional ≤ vec_capacity slots.old
@@ -111,7 +111,42 @@ fn make_room<T>(
     reserve(slots, places, 1, keys)
 }
 
-/// Adds a slot for a key that has none.
+/// Returns `true` if there is room for one more slot and for the place of a key.
+#[inline(always)]
+fn has_room<T>(slots: &Vec<(usize, T)>, places: &Vec<usize>, key: usize) -> bool
+    ensures { IsTrue result ↔ ((vec_len slots.now < vec_capacity slots.now) × (key < vec_len places.now)) }
+{
+    slots.len() < slots.capacity() && key < places.len()
+}
+
+/// Adds a slot for a key that has none, in the room that there is.
+#[inline(always)]
+fn put<T, J: Judge<(usize, T)>, const D: usize>(
+    slots: &mut Vec<(usize, T)>,
+    places: &mut [usize],
+    key: usize,
+    item: T,
+    judge: &mut J,
+)
+    requires room { vec_len slots.old < vec_capacity slots.old }
+    requires keyed { key < length places.old }
+    requires right { AreRight slots.old.items places.old }
+    requires absent { IsAbsent key slots.old.items }
+    ensures bag { IsSameBag ((key, item) ∷ slots.old.items) slots.new.items }
+    ensures ordered { IsHeapOrdered J.order D slots.old.items
+        → IsHeapOrdered J.order D slots.new.items }
+    ensures counted { RisesWithin (J.count judge.old) (J.count judge.new)
+        (push_bound D (length slots.old.items)) }
+    ensures right { AreRight slots.new.items places.new }
+    ensures capacity { vec_capacity slots.new ≡ vec_capacity slots.old }
+{
+    let place = slots.len();
+    slots.push_reserved((key, item));
+    sift_up::<T, J, D>(slots.as_mut_slice(), places, place, judge);
+}
+
+/// Adds a slot for a key that has none. It stands out of line: a call that has room adds it by `put`.
+#[inline(never)]
 pub(crate) fn add<T, J: Judge<(usize, T)>, const D: usize>(
     slots: &mut Vec<(usize, T)>,
     places: &mut Vec<usize>,
@@ -143,13 +178,12 @@ pub(crate) fn add<T, J: Judge<(usize, T)>, const D: usize>(
     if make_room(slots, places, key).is_err() {
         return Err(item);
     }
-    let place = slots.len();
-    slots.push_reserved((key, item));
-    sift_up::<T, J, D>(slots.as_mut_slice(), places.as_mut_slice(), place, judge);
+    put::<T, J, D>(slots, places.as_mut_slice(), key, item, judge);
     Ok(())
 }
 
-/// Puts another item into a slot, and returns the one that was there.
+/// Puts another item into a slot, and returns the one that was there. It stands out of line, as `add` does.
+#[inline(never)]
 pub(crate) fn change<T, J: Judge<(usize, T)>, const D: usize>(
     slots: &mut [(usize, T)],
     places: &mut [usize],
@@ -196,7 +230,7 @@ pub(crate) fn take_out<T, J: Judge<(usize, T)>, const D: usize>(
         return slot;
     }
     if at == 0 {
-        sift_down_to_bottom::<T, J, D>(slots.as_mut_slice(), places, judge);
+        sift_to_bottom::<T, J, D>(slots.as_mut_slice(), places, judge);
         return slot;
     }
     fix::<T, J, D>(slots.as_mut_slice(), places, at, judge);
@@ -235,6 +269,10 @@ pub(crate) fn set<T, J: Judge<(usize, T)>, const D: usize>(
     ensures uncounted { OnErr result (judge.new ≡ judge.old) }
 {
     let Some(at) = place_of(slots.as_slice(), places.as_slice(), key) else {
+        if has_room(slots, places, key) {
+            put::<T, J, D>(slots, places.as_mut_slice(), key, item, judge);
+            return Ok(None);
+        }
         add::<T, J, D>(slots, places, key, item, judge)?;
         return Ok(None);
     };
@@ -300,6 +338,10 @@ pub(crate) fn raise<T: Drop, J: Judge<(usize, T)>, const D: usize>(
     ensures uncounted { OnErr result (judge.new ≡ judge.old) }
 {
     let Some(at) = place_of(slots.as_slice(), places.as_slice(), key) else {
+        if has_room(slots, places, key) {
+            put::<T, J, D>(slots, places.as_mut_slice(), key, item, judge);
+            return Ok(true);
+        }
         add::<T, J, D>(slots, places, key, item, judge)?;
         return Ok(true);
     };

@@ -26,6 +26,7 @@ impl<T: Ord, const D: usize> DaryHeap<T, D> {
         ensures capacity { IfOk result (λ heap. capacity ≤ heap.capacity) }
         ensures uncounted { IfOk result (λ heap. heap.comparisons ≡ 0) }
         ensures succeeds { capacity ≡ 0 → IsOk result }
+        ensures no_room { capacity ≡ 0 → IfOk result (λ heap. heap.capacity ≡ 0) }
     {
         Ok(DaryHeap {
             items: Vec::with_capacity(alloc, capacity)?,

@@ -1,9 +1,9 @@
 //! The iterator that pops the items of a heap.
-ghost use Rattle.std.specs.Prelude.{◌≡◌, ◌^◌, ◌<◌, length, Some, Contains, IfOk};
+ghost use Rattle.std.specs.Prelude.{◌≡◌, ◌^◌, ◌<◌, [], length, Some, Contains, IfOk, IsOk};
 ghost use Rattle.std.specs.Iterator.{item_count};
 ghost use Rattle.dary_heap.specs.Sizes.{HintsExactly};
 ghost use Rattle.dary_heap.specs.Bounds.{RisesWithin, build_bound};
-ghost use Rattle.dary_heap.specs.Building.{IsCopyOf};
+ghost use Rattle.dary_heap.specs.Building.{IsCopiedFreely, IsCopyOf};
 ghost use Rattle.dary_heap.specs.Contents.{Contents};
 ghost use Rattle.dary_heap.specs.HeapOrder.{IsHeapOrdered};
 ghost use Rattle.dary_heap.specs.Popping.{IsPop, GivesDescending};
@@ -62,8 +62,6 @@ impl<T, const D: usize, J: Judge<T>> DaryHeap<T, D, J> {
         // `None` all of them.
         ensures descending { GivesDescending J.order (IsPop J.order D) (λ heap. heap.items) result }
     {
-        // It ensures that the heap is ordered.
-        let _ = self.as_slice();
         IntoIterSorted { heap: self }
     }
 }
@@ -78,7 +76,7 @@ impl<T: Ord, const D: usize> IntoIterSorted<T, D> {
     ///
     /// # Errors
     ///
-    /// Returns `AllocError` if memory allocation fails, here or in an item's `clone`.
+    /// As [`DaryHeap::clone`].
     ///
     /// # Examples
     ///
@@ -95,6 +93,7 @@ impl<T: Ord, const D: usize> IntoIterSorted<T, D> {
         ensures items { IfOk result (λ copy. copy.items ≡ self.now.items) }
         ensures counted { IfOk result
             (λ copy. RisesWithin 0 copy.comparisons (build_bound D (length self.now.items))) }
+        ensures succeeds { self.now.items ≡ [] → IsOk result }
     {
         Ok(IntoIterSorted {
             heap: self.heap.clone()?,
@@ -106,6 +105,8 @@ impl<T: Ord, const D: usize> IntoIterSorted<T, D> {
 /// `clone` of a [`DaryHeap`] does. Otherwise a call `items.clone()` is of [`IntoIterSorted::clone`].
 impl<T: Clone, const D: usize, J: Judge<T> + Clone> Clone for IntoIterSorted<T, D, J> {
     ghost is_clone = { IsCopyOf T.is_clone J.is_clone J.count J.order D };
+
+    ghost is_infallible = { IsCopiedFreely J.is_infallible J.count };
 
     fn clone(&self) -> Result<Self, AllocError> {
         Ok(IntoIterSorted {

@@ -33,6 +33,7 @@ impl<T: Ord, const D: usize> IndexedHeap<T, D> {
         ensures keys { IfOk result (λ heap. heap.keys ≡ keys) }
         ensures uncounted { IfOk result (λ heap. heap.comparisons ≡ 0) }
         ensures succeeds { entries ≡ 0 → keys ≡ 0 → IsOk result }
+        ensures no_room { entries ≡ 0 → IfOk result (λ heap. heap.capacity ≡ 0) }
     {
         let mut places = Vec::new(alloc);
         places.resize(keys, 0)?;
@@ -88,8 +89,10 @@ impl<T, const D: usize, J: Judge<T>> IndexedHeap<T, D, J> {
 
     /// Reserves room for at least `additional` more entries, and for the keys below `keys`. Makes no comparison.
     ///
-    /// After `Ok` that many inserts of such keys allocate no memory, and don't fail. If there is room already, it
-    /// does nothing.
+    /// After `Ok` that many inserts of such keys allocate no memory, and don't fail. The number of [`keys`] is then
+    /// `keys`, or stays if it was more. If there is room already, the call does nothing.
+    ///
+    /// [`keys`]: IndexedHeap::keys
     ///
     /// # Errors
     ///
@@ -110,7 +113,7 @@ impl<T, const D: usize, J: Judge<T>> IndexedHeap<T, D, J> {
         ensures sound { AreSound J.order D self.new.entries }
         ensures uncounted { self.new.comparisons ≡ self.old.comparisons }
         ensures room { OnOk result (length self.new.entries + additional ≤ self.new.capacity) }
-        ensures keyed { OnOk result (keys ≤ self.new.keys) }
+        ensures keyed { OnOk result (self.new.keys ≡ max self.old.keys keys) }
         ensures capacity { self.old.capacity ≤ self.new.capacity }
         ensures keys { self.old.keys ≤ self.new.keys }
         ensures kept { length self.old.entries + additional ≤ self.old.capacity

@@ -12,8 +12,8 @@ use dary_heap::sift::Judge;
 impl<T, const D: usize, J: Judge<T>> IndexedHeap<T, D, J> {
     /// Removes the entry of a key and returns its item, or returns `None` if the key has none.
     ///
-    /// No other entry changes, and no room is given back. The call takes at most as many comparisons as a
-    /// [`pop`](IndexedHeap::pop), and none if it returns `None`.
+    /// No other entry changes, and no room is given back, so if it returns an item, an insert of the key can't fail
+    /// next. The call takes at most as many comparisons as a [`pop`](IndexedHeap::pop), and none if it returns `None`.
     ///
     /// # Examples
     ///
@@ -30,6 +30,8 @@ impl<T, const D: usize, J: Judge<T>> IndexedHeap<T, D, J> {
         ensures loses { Loses key self.old.entries result self.new.entries }
         ensures given { result ≡ item_of key self.old.entries }
         ensures gone { IsAbsent key self.new.entries }
+        ensures leaves_room { IfSome result (λ item. (length self.new.entries < self.new.capacity)
+            × (key < self.new.keys)) }
         ensures capacity { self.new.capacity ≡ self.old.capacity }
         ensures keys { self.new.keys ≡ self.old.keys }
         ensures counted { RisesWithin self.old.comparisons self.new.comparisons
@@ -49,9 +51,9 @@ impl<T, const D: usize, J: Judge<T>> IndexedHeap<T, D, J> {
 
     /// Removes an entry with a greatest item and returns it, or returns `None` if there are no entries.
     ///
-    /// It is the entry that [`peek`](IndexedHeap::peek) returns. No room is given back. A pop takes at most as many
-    /// comparisons as the arity times the depth of the last place that remains, which is *O*(log *n*) from arity 2
-    /// on.
+    /// It is the entry that [`peek`](IndexedHeap::peek) returns. No room is given back, so an insert of its key can't
+    /// fail next. A pop takes at most as many comparisons as the arity times the depth of the last place that remains,
+    /// which is *O*(log *n*) from arity 2 on.
     ///
     /// # Examples
     ///
@@ -71,6 +73,8 @@ impl<T, const D: usize, J: Judge<T>> IndexedHeap<T, D, J> {
         ensures bag { IfSome result (λ entry. IsSameBag self.old.entries
             (entry ∷ self.new.entries)) }
         ensures gone { IfSome result (λ entry. IsAbsent entry.0 self.new.entries) }
+        ensures leaves_room { IfSome result (λ entry. (length self.new.entries < self.new.capacity)
+            × (entry.0 < self.new.keys)) }
         ensures len { length self.new.entries ≡ length self.old.entries - 1 }
         ensures capacity { self.new.capacity ≡ self.old.capacity }
         ensures keys { self.new.keys ≡ self.old.keys }

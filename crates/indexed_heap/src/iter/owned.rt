@@ -1,5 +1,5 @@
 //! The iterator that consumes a heap.
-ghost use Rattle.std.specs.Prelude.{◌≡◌, ◌^◌, ◌<◌, ℕ, List, length, Contains, IfOk};
+ghost use Rattle.std.specs.Prelude.{◌≡◌, ◌^◌, ◌<◌, ℕ, [], List, length, Contains, IfOk, IsOk};
 ghost use Rattle.std.specs.Iterator.{YieldsFirst, YieldsLast, item_count};
 ghost use Rattle.std.specs.Iterator.Runs.{YieldsInOrder, YieldsInReverse};
 ghost use Rattle.dary_heap.specs.Sizes.{HintsExactly};
@@ -57,7 +57,8 @@ impl<T> IntoIter<T> {
     ///
     /// # Errors
     ///
-    /// Returns `AllocError` if memory allocation fails, here or in an item's `clone`.
+    /// Returns `AllocError` if memory allocation fails, here or in an item's `clone`. If nothing is left, the call
+    /// doesn't fail.
     ///
     /// # Examples
     ///
@@ -73,8 +74,13 @@ impl<T> IntoIter<T> {
     where
         T: Clone + Drop,
         requires { (key : ℕ) (x y : T) → Contains self.now (key, x) → T.is_clone x y → y ≡ x }
-        ensures { IfOk result (λ copy. copy ≡ self.now) }
+        ensures entries { IfOk result (λ copy. copy ≡ self.now) }
+        ensures succeeds { self.now ≡ [] → IsOk result }
     {
+        if self.rest.is_empty() {
+            let rest = VecDeque::new(*self.rest.allocator());
+            return Ok(IntoIter { rest });
+        }
         let rest = self.rest.clone()?;
         Ok(IntoIter { rest })
     }

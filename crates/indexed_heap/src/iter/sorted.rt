@@ -57,6 +57,7 @@ impl<T, const D: usize, J: Judge<T>> IndexedHeap<T, D, J> {
     /// let greatest: Vec<(usize, i32)> = heap.into_iter_sorted().take(2).collect(alloc)?;
     /// assert_eq!(rt; greatest.as_slice(), [(1, 50), (2, 30)].as_slice());
     /// ```
+    #[tactic(auto, using(crate::proofs::Sound::sound))]
     pub fn into_iter_sorted(self) -> IntoIterSorted<T, D, J>
         ensures heap { result ≡ self }
         ensures sound { AreSound J.order D self.entries }
@@ -67,8 +68,6 @@ impl<T, const D: usize, J: Judge<T>> IndexedHeap<T, D, J> {
         ensures descending { GivesDescending (by_item J.order) (IsEntryPop J.order D)
             (λ heap. heap.entries) result }
     {
-        // For the proof: its contract says that the entries are sound.
-        let _ = self.as_slice();
         IntoIterSorted { heap: self }
     }
 }

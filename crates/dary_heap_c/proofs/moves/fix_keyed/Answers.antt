@@ -1,10 +1,21 @@
-use Rattle.dary_heap.proofs.Common.{slice_get-get_or, IsPermutation-refl}
-use Rattle.std.specs.Prelude.{pos}
-use Rattle.dary_heap_c.proofs.Placing.{noted, rights_on}
+use Rattle.dary_heap.proofs.Common.{◌≡◌, ◌≤◌, inl, inr, arith}
+use Rattle.dary_heap.proofs.Path.{GoesUp-le}
+use Rattle.dary_heap_c.proofs.Placing.{went_down, went_up}
 use Rattle.dary_heap_c.proofs.moves.fix_keyed.Goals as goal
 
 pub returns-clause-rights : goal.returns-clause-rights
 returns-clause-rights g c =
-    let xs = c.args.entries.now in
-    let there = slice_get-get_or xs c.args.place (record { key = pos 0; value = 0 }) c.requires in
-    rights_on (IsPermutation-refl xs) c.sift.ensures.follow (rw c.note.ensures (noted xs c.args.places.now c.args.place _ there))
+    let D = g.row.D in let place = c.args.place in let stop = c.sift_with-stop.result in
+    let noted = c.write_path.ensures in let sifted = c.sift_with-stop.ensures in
+    elim sifted.path [
+      | inl up ↦
+          let over : stop ≤ place = GoesUp-le D place stop up in
+          let low : c.max.result ≡ place = omega (arith, c.max.ensures, over) in
+          let high : c.min.result ≡ stop = omega (arith, c.min.ensures, over) in
+          went_up D place stop _ _ _ _ sifted.bag (rw (low, high) at noted.right) noted.others c.requires up
+      | inr down ↦
+          let under : place ≤ stop = GoesUp-le D stop place down in
+          let low : c.max.result ≡ stop = omega (arith, c.max.ensures, under) in
+          let high : c.min.result ≡ place = omega (arith, c.min.ensures, under) in
+          went_down D stop place _ _ _ _ sifted.bag (rw (low, high) at noted.right) noted.others sifted.within down
+    ]

@@ -1,17 +1,40 @@
-use Rattle.dary_heap.proofs.Common.{◌≡◌, ◌+◌, ◌-◌, ◌*◌, length, ap, arith, arity, depth, fix_bound, pop_bound}
-use Rattle.dary_heap.proofs.Depth.{depth-zero}
+use Rattle.dary_heap.proofs.Common.{◌<◌, eqb-false, length, sym, ◌∙◌, arith, IsPermutation-refl}
 use Rattle.dary_heap.proofs.Order.{below_root}
-use Rattle.dary_heap.proofs.sift.Parts.{but_at_root}
+use Rattle.dary_heap.proofs.sift.Parts.{replaced}
+use Rattle.dary_heap.proofs.sift.Sorting.{but_last_is}
+use Rattle.dary_heap_c.proofs.Placing.{bag_behind, comes_last, none_there, one_less, others_stay, removed, went_down}
 use Rattle.dary_heap_c.proofs.moves.pop_keyed.Goals as goal
 
-pub returns-clause-ordered : goal.returns-clause-ordered
-returns-clause-ordered g c = λ h. c.remove_keyed.ensures.ordered (but_at_root g.row.D c.args.entries.now (below_root g.row.D c.args.entries.now h))
+pub returns-then-end-ne0-clause-bag : goal.returns-then-end-ne0-clause-bag
+returns-then-end-ne0-clause-bag g c =
+    let sifted = c.sift_to_bottom_with-stop in
+    bag_behind c.args.entries.now c.in-Some.rest.now c.in-Some.popped.now 0 (omega arith) (sym c.swap.ensures.after ∙ c.in-Some.ensures.cases.0) sifted.new.items sifted.ensures.bag
 
-pub returns-clause-counted : goal.returns-clause-counted
-returns-clause-counted g c =
-    let D = g.row.D in let n = length c.args.entries.now in
-    let less : n - 1 - 1 ≡ n - 2 = omega arith in
-    let whole : depth D (n - 1 - 1) - 0 ≡ depth D (n - 2) = omega (arith, ap (depth D) less) in
-    let none : 0 + arity D * (depth D (n - 1 - 1) - 0) ≡ arity D * depth D (n - 2) = omega (arith, ap (λ k. arity D * k) whole) in
-    let same : fix_bound D (n - 1) 0 ≡ pop_bound D n = rw (depth-zero D) none in
-    record { rises = c.remove_keyed.ensures.counted.rises; within = omega (arith, c.remove_keyed.ensures.counted.within, same) }
+pub returns-then-end-ne0-clause-last : goal.returns-then-end-ne0-clause-last
+returns-then-end-ne0-clause-last g c =
+    let sifted = c.sift_to_bottom_with-stop in
+    comes_last c.args.entries.now c.in-Some.rest.now c.in-Some.popped.now 0 (omega arith) (sym c.swap.ensures.after ∙ c.in-Some.ensures.cases.0) sifted.new.items sifted.ensures.bag
+
+pub returns-then-end-ne0-clause-ordered : goal.returns-then-end-ne0-clause-ordered
+returns-then-end-ne0-clause-ordered g c = λ h.
+    let xs = c.args.entries.now in let rest = c.in-Some.rest.now in let last = c.in-Some.popped.now in
+    let stay = others_stay xs rest last 0 (omega arith) (sym c.swap.ensures.after ∙ c.in-Some.ensures.cases.0) in
+    let sifted = c.sift_to_bottom_with-stop in
+    rw (but_last_is sifted.new.items last) (sifted.ensures.ordered (replaced g.row.D xs rest (λ k pos within. stay k (omega (arith, pos)) within) (below_root g.row.D xs h)))
+
+pub returns-then-end-ne0-clause-rights : goal.returns-then-end-ne0-clause-rights
+returns-then-end-ne0-clause-rights g c =
+    let xs = c.args.entries.now in let rest = c.in-Some.rest.now in
+    let sifted = c.sift_to_bottom_with-stop in
+    let went = went_down g.row.D sifted.result 0 rest sifted.new.items c.note.new.places c.write_path.new.places sifted.ensures.bag c.write_path.ensures.right c.write_path.ensures.others
+    sifted.ensures.within sifted.ensures.path in
+    removed xs rest c.in-Some.popped.now 0 (omega arith) (sym c.swap.ensures.after ∙ c.in-Some.ensures.cases.0) sifted.new.items sifted.ensures.bag c.args.places.now c.write_path.new.places
+    (rw c.note.ensures at went)
+
+pub returns-else-end-ne0-clause-rights : goal.returns-else-end-ne0-clause-rights
+returns-else-end-ne0-clause-rights g c =
+    let xs = c.args.entries.now in let rest = c.in-Some.rest.now in let last = c.in-Some.popped.now in
+    let some : 0 < length xs = omega (arith, eqb-false (length xs) 0 (sym c.is_empty.ensures ∙ c.if-is_empty.false)) in
+    let is = sym c.swap.ensures.after ∙ c.in-Some.ensures.cases.0 in
+    let less = one_less xs rest last 0 some is in
+    rw c.note.ensures (removed xs rest last 0 some is rest (IsPermutation-refl rest) c.args.places.now _ (none_there 0 rest _ (omega (arith, less, c.if-end-ne0.false))))

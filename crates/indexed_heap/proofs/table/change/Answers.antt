@@ -4,8 +4,8 @@ use Rattle.indexed_heap.proofs.Changing.{item_instead, put_there, slot_is}
 use Rattle.indexed_heap.proofs.Raising.{same_key_but_at}
 use Rattle.indexed_heap.proofs.table.change.Goals as goal
 
-pub fix-requires-clause-right : goal.fix-requires-clause-right
-fix-requires-clause-right g c =
+pub fix-requires : goal.fix-requires
+fix-requires g c =
     let xs = c.args.slots.now in let at = c.args.at in
     same_key_but_at xs c.args.places.now at (get_or xs at c.index-slots-at.result) _ c.requires.there (slice_get-get_or xs at c.index-slots-at.result c.requires.there) refl c.requires.right
 

@@ -1,8 +1,8 @@
-use Rattle.dary_heap.proofs.Common.{◌≡◌, ◌≢◌, ℕ, ◌<◌, get_or, length, set, refl, sym, ap, ◌∙◌, arith, Some, get_or_from_slice_get, is_le, Greater, length-set}
+use Rattle.dary_heap.proofs.Common.{◌≡◌, ◌≢◌, ℕ, get_or, refl, sym, ap, ◌∙◌, Some, get_or_from_slice_get, is_le, Greater}
+use Rattle.dary_heap.proofs.Callers.{overwritten}
 use Rattle.dary_heap.proofs.Order.{not_greater, is_greater, strictly_less}
-use Rattle.dary_heap.proofs.sift.Parts.{whole_of}
 use Rattle.indexed_heap.proofs.Changing.{item_instead, put_there, slot_is}
-use Rattle.indexed_heap.proofs.Raising.{lifted, same_key_but_at}
+use Rattle.indexed_heap.proofs.Raising.{none_greater, same_key_but_at}
 use Rattle.indexed_heap.proofs.table.lift.Goals.{After-at_most}
 use Rattle.indexed_heap.proofs.table.lift.Given.{Over}
 use Rattle.indexed_heap.proofs.table.lift.Goals as goal
@@ -35,7 +35,7 @@ returns-then-at_most-clause-reached g c =
 
 pub sift_up-requires : goal.sift_up-requires
 sift_up-requires g c = let there = c.requires.there in
-    record { right = same_key_but_at c.args.slots.now c.args.places.now c.args.at there.entry _ c.requires.inside there.there (sym there.has) c.requires.right }
+    same_key_but_at c.args.slots.now c.args.places.now c.args.at there.entry _ c.requires.inside there.there (sym there.has) c.requires.right
 
 pub returns-clause-raised : goal.returns-clause-raised
 returns-clause-raised g c =
@@ -44,9 +44,9 @@ returns-clause-raised g c =
     let order = g.J.Judge.order in (
       there.entry.1,
       item_instead c.args.slots.now c.sift_up.new.slots c.args.at c.args.key there.entry
-          (c.args.key, c.args.item) there.entry.1 c.args.item there.there there.has refl refl refl c.sift_up.ensures.sifted.permutation,
+          (c.args.key, c.args.item) there.entry.1 c.args.item there.there there.has refl refl refl c.sift_up.ensures.bag,
       ap (order (c.args.key, c.args.item)) (sym (there_is g s)) ∙ is_greater _ (sym (answered g s c.at_most.ensures.answer) ∙ c.if-at_most.false),
-      put_there c.args.slots.now c.sift_up.new.slots c.args.at (c.args.key, c.args.item) c.requires.inside c.sift_up.ensures.sifted.permutation,
+      put_there c.args.slots.now c.sift_up.new.slots c.args.at (c.args.key, c.args.item) c.requires.inside c.sift_up.ensures.bag,
     )
 
 pub returns-clause-ordered : goal.returns-clause-ordered
@@ -58,7 +58,5 @@ returns-clause-ordered g c = λ h.
     let order = g.J.Judge.order in
     let less = strictly_less g.met.J.Judge.total new there.entry (sym (answered g s c.at_most.ensures.answer) ∙ c.if-at_most.false) in
     let under : order there.entry new ≢ Greater = λ e. (let no = sym less ∙ e in cc) in
-    let way = c.sift_up.ensures.sifted in
-    let inside : at < length (set xs at new) = omega (arith, c.requires.inside, length-set xs at new) in
-    whole_of g.row.D (set xs at new) c.sift_up.new.slots way.permutation
-    (way.ordered (length (set xs at new)) inside (lifted g.met.J.Judge.total g.row.D at xs there.entry new c.requires.inside there.there under h (length (set xs at new))))
+    let total = g.met.J.Judge.total in
+    c.sift_up.ensures.ordered (overwritten total g.row.D at xs new h) (none_greater total g.row.D at xs there.entry new c.requires.inside there.there under h)

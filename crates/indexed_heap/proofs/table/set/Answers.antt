@@ -9,22 +9,22 @@ use Rattle.indexed_heap.proofs.table.set.Goals as goal
 -- as many slots are left
 all : (g : Over) (c : After-change g) → length c.change.new.slots ≡ c.args.slots.now.len
 all g c =
-    let bag = c.change.ensures.bag c.args.key (rw c.as_mut_slice.ensures.value (rw c.as_slice.ensures.value at c.in-Some.ensures.found)) in
-    omega (arith, length_permutation _ _ bag, c.as_mut_slice.ensures.len)
+    let bag = c.change.ensures.bag c.args.key (rw c.as_mut_slice-2.ensures.value (rw c.as_slice.ensures.value at c.in-Some.ensures.found)) in
+    omega (arith, length_permutation _ _ bag, c.as_mut_slice-2.ensures.len)
 
 pub returns-clause-gets : goal.returns-clause-gets
 returns-clause-gets g c =
-    let bag = c.change.ensures.bag c.args.key (rw c.as_mut_slice.ensures.value (rw c.as_slice.ensures.value at c.in-Some.ensures.found)) in
+    let bag = c.change.ensures.bag c.args.key (rw c.as_mut_slice-2.ensures.value (rw c.as_slice.ensures.value at c.in-Some.ensures.found)) in
     rw (written_back _ c.change.new.slots _ (all g (goal.at.returns-clause-gets g c).After-change))
     (record {
-      bag = rw c.as_mut_slice.ensures.value at bag;
+      bag = rw c.as_mut_slice-2.ensures.value at bag;
       absent = tt;
       has =
-          c.change.ensures.has c.args.key (rw c.as_mut_slice.ensures.value (rw c.as_slice.ensures.value at c.in-Some.ensures.found));
+          c.change.ensures.has c.args.key (rw c.as_mut_slice-2.ensures.value (rw c.as_slice.ensures.value at c.in-Some.ensures.found));
     })
 
 pub returns-clause-ordered : goal.returns-clause-ordered
-returns-clause-ordered g c = λ h. rw (written_back _ c.change.new.slots _ (all g (goal.at.returns-clause-ordered g c).After-change)) (c.change.ensures.ordered (rw c.as_mut_slice.ensures.value h))
+returns-clause-ordered g c = λ h. rw (written_back _ c.change.new.slots _ (all g (goal.at.returns-clause-ordered g c).After-change)) (c.change.ensures.ordered (rw c.as_mut_slice-2.ensures.value h))
 
 pub returns-clause-counted : goal.returns-clause-counted
 returns-clause-counted g c =
@@ -40,8 +40,8 @@ returns-clause-counted g c =
             within = omega (
               arith,
               counted.within,
-              ap (λ k. fix_bound g.row.D (length c.as_mut_slice.result.now) k) same,
-              ap (λ (ys : List (ℕ × g.row.T.Denot)). fix_bound g.row.D (length ys) at) c.as_mut_slice.ensures.value,
+              ap (λ k. fix_bound g.row.D (length c.as_mut_slice-2.result.now) k) same,
+              ap (λ (ys : List (ℕ × g.row.T.Denot)). fix_bound g.row.D (length ys) at) c.as_mut_slice-2.ensures.value,
             );
           };
     }
@@ -50,7 +50,10 @@ pub change-requires-clause-there : goal.change-requires-clause-there
 change-requires-clause-there g c =
     let found = c.in-Some.ensures.found in
     let inside : c.in-Some.at < length c.as_slice.result.now = slice_get_within c.as_slice.result.now c.in-Some.at found.entry found.there in
-    omega (arith, inside, ap length c.as_slice.ensures.value, ap length c.as_mut_slice.ensures.value)
+    omega (arith, inside, ap length c.as_slice.ensures.value, ap length c.as_mut_slice-2.ensures.value)
 
 pub returns-in_default-clause-gets : goal.returns-in_default-clause-gets
 returns-in_default-clause-gets g c = gets_new c.args.key c.args.item c.args.slots.now.items c.add.new.slots.items c.in_ok-add.ensures.bag (rw c.as_slice.ensures.value at c.in_default.ensures.none)
+
+pub returns-then-has_room-clause-gets : goal.returns-then-has_room-clause-gets
+returns-then-has_room-clause-gets g c = gets_new c.args.key c.args.item c.args.slots.now.items c.put.new.slots.items c.put.ensures.bag (rw c.as_slice.ensures.value at c.in_default.ensures.none)

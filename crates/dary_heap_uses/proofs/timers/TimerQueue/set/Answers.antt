@@ -1,6 +1,6 @@
 use Rattle.dary_heap_uses.proofs.Common.{All, length-map, named, refl, subst, sym}
 use Rattle.dary_heap_uses.proofs.Taking.{HasItsName}
-use Rattle.indexed_heap.proofs.Callers.{Gets-all, Gets-map, InsertsWithin-map, IsAbsent-map}
+use Rattle.indexed_heap.proofs.Callers.{Gets-all, Gets-map, InsertsWithin-map, IsAbsent-map, IsEntry-map}
 use Rattle.dary_heap_uses.proofs.timers.TimerQueue.set.Goals as goal
 use Rattle.dary_heap_uses.proofs.timers.TimerQueue.set.Goals.{in-Ok-Some, in-Ok-None, in-Err}
 
@@ -32,3 +32,6 @@ returns-clause-counted g c = elim c.match-insert.branch [
   | in-Ok-None w ↦ rw (w.result-is, ← c.self.view_is) (InsertsWithin-map (λ timer. timer.0) g.row.D c.args.name _ _ _ w.in-Ok-None.ensures.counted)
   | in-Err w ↦ rw w.result-is tt
 ]
+
+pub returns-clause-roomy : goal.returns-clause-roomy
+returns-clause-roomy g c = rw (← c.self.view_is) (λ at h. c.insert.ensures.roomy at (IsEntry-map (λ timer. timer.0) c.args.name at c.self.inside.waiting.entries h))

@@ -9,3 +9,12 @@ returns-clause-present g c = rw (← c.self.view_is) c.raise.ensures.present
 
 pub returns-clause-roomy : goal.returns-clause-roomy
 returns-clause-roomy g c = rw (← c.self.view_is) c.raise.ensures.roomy
+
+pub returns-clause-raised : goal.returns-clause-raised
+returns-clause-raised g c = rw (← c.self.view_is) c.raise.ensures.raised
+
+pub returns-clause-reached : goal.returns-clause-reached
+returns-clause-reached g c = rw (← c.self.view_is) c.raise.ensures.reached
+
+pub returns-clause-counted : goal.returns-clause-counted
+returns-clause-counted g c = rw (← c.self.view_is) c.raise.ensures.counted

@@ -2,7 +2,7 @@ use Rattle.dary_heap.proofs.Common.{◌∙◌}
 use Rattle.dary_heap.proofs.heap.Cloning.{clones_same}
 use Rattle.dary_heap.proofs.iter.owned.IntoIter.clone.Goals as goal
 
-pub returns : goal.returns
-returns g c =
+pub returns-clause-items : goal.returns-clause-items
+returns-clause-items g c =
     let asked = rw (← c.self.view_is) at c.requires in
     clones_same g.T.Clone.is_clone _ _ asked c.in_ok-rest.ensures.cases.0 ∙ c.self.view_is

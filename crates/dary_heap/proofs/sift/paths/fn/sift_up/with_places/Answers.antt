@@ -12,6 +12,6 @@ returns g c =
     let swapped = move_swaps c.take-hole.result.0 c.take-hole.result.1 at (sym hole.at) c.move_to.new.self p near apart next.at next.items ∙ ap (λ l. swap l at p) whole in
     record {
       same_slice = record { slice = c.sift_hole_up.ensures.slice ∙ next.slice ∙ hole.slice; len = length_permutation _ _ sifted.permutation ∙ ap length swapped ∙ length-swap _ _ _ };
-      sifted = subst (λ (items : List g.row.T.Denot). SiftsUp g.J.Judge.order g.row.D p items c.sift_hole_up.result.items (g.J.Judge.count c.args.judge.now)
+      sifted = subst (λ (items : List g.row.T.Denot). SiftsUp g.J.Judge.order g.row.D p c.sift_hole_up.result.1 items c.sift_hole_up.result.0.items (g.J.Judge.count c.args.judge.now)
           (g.J.Judge.count c.sift_hole_up.new.judge)) swapped sifted;
     }
