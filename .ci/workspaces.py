@@ -1,0 +1,52 @@
+"""Repositories of some of the crates, and of a caller of them."""
+import pathlib
+import re
+import shutil
+import subprocess
+
+TOP = pathlib.Path(__file__).resolve().parent.parent
+CRATE = TOP / "crates/dary_heap"
+# The first line of a block of code that begins a file of a caller.
+HEAD = re.compile(r"^(?://|--) ((?:src|specs|proofs)/\S+)\n", re.M)
+
+
+def lay_out(tree, *names):
+    """Copies these crates and those below them to a folder. What was proved there stays. Returns their names, lowest first."""
+    lines = (TOP / "crates.txt").read_text(encoding="utf-8").splitlines()
+    rows, needed = {re.split(r"\W", it)[0]: it for it in lines if it[:1].isalpha()}, {*names}
+    for _ in rows:
+        needed.update(below for it in [*needed] for below in rows[it].partition(":")[2].split() if below in rows)
+    for name in needed:
+        empty(tree / "crates" / name)
+        shutil.copytree(TOP / "crates" / name, tree / "crates" / name, ignore=shutil.ignore_patterns("out"), dirs_exist_ok=True)
+    (tree / "crates.txt").write_text("".join(f"{row}\n" for it, row in rows.items() if it in needed), encoding="utf-8")
+    shutil.copy(TOP / "HANDLES", tree)
+    # (crates.txt has each crate below those that stand on it)
+    return [it for it in rows if it in needed]
+
+
+def add_caller(tree, files, *libraries):
+    """Adds a crate `my_crate` over these libraries to a repository, in place of an earlier one. Its files are a dict from path to
+    text. Returns its folder."""
+    folder, crates = tree / "crates/my_crate", tree / "crates.txt"
+    shutil.rmtree(folder, ignore_errors=True)
+    rows = [it for it in crates.read_text(encoding="utf-8").splitlines() if not it.startswith("my_crate:")]
+    crates.write_text("".join(f"{it}\n" for it in [*rows, f"my_crate: {' '.join(libraries)}"]), encoding="utf-8")
+    for path, text in files.items():
+        (folder / path).parent.mkdir(parents=True, exist_ok=True)
+        (folder / path).write_text(text, encoding="utf-8")
+    return folder
+
+
+def empty(crate):
+    """Removes what is in a crate's folder, if it is there, but for what was proved."""
+    for it in crate.glob("*"):
+        if it.is_dir() and it.name != "out":
+            shutil.rmtree(it)
+        elif it.name != "out":
+            it.unlink()
+
+
+def rt(folder, *words):
+    """Runs a command of `rt` in a folder."""
+    return subprocess.run(["rt", *words], cwd=folder, capture_output=True, encoding="utf-8")
