@@ -3,12 +3,7 @@
 ghost use Rattle.std.specs.Prelude.{IfOk, IsSorted};
 
 use crate::{Host, Tested};
-use dary_heap::shortest_path::{Edge, PathRefusal, shortest_path};
-use dary_heap::sift::{ByOrd, LeastFirst};
 use dary_heap_uses::merge::merge;
-use dary_heap_uses::roads::{
-    CostHeap, is_graph, shortest_path_by_lowering, shortest_path_by_lowering_within,
-};
 use dary_heap_uses::scheduler::Scheduler;
 use dary_heap_uses::simulation::{Change, Handler, run};
 use dary_heap_uses::timers::TimerQueue;
@@ -65,47 +60,6 @@ fn ties_come_in_the_order_of_the_lists(rt: HostRuntime) -> Tested {
         assert_eq!(rt; word.text, text);
     }
     Ok(())
-}
-
-/// Compares what the three searches return.
-fn finds(
-    rt: &impl Host,
-    graph: &Vec<Vec<Edge>>,
-    start: usize,
-    goal: usize,
-    answer: Result<Option<usize>, PathRefusal>,
-) -> Tested {
-    let alloc = rt.alloc();
-    assert!(rt; is_graph(graph));
-    assert!(rt; start < graph.len());
-    assert_eq!(rt; shortest_path(alloc, graph, start, goal), answer);
-    assert_eq!(rt;
-        shortest_path_by_lowering(alloc, graph, start, goal),
-        answer
-    );
-    let nodes = graph.len();
-    let mut found = vec![in alloc; 0; nodes]?;
-    let mut heap = CostHeap::<2>::with_judge(alloc, LeastFirst(ByOrd::new()));
-    heap.reserve(nodes, nodes)?;
-    let kept = shortest_path_by_lowering_within(graph, start, goal, &mut found, &mut heap);
-    assert_eq!(rt; kept.ok(), answer.ok());
-    Ok(())
-}
-
-#[test]
-fn a_detour_is_cheaper(rt: HostRuntime) -> Tested {
-    let alloc = rt.alloc();
-    let edge = |node, cost| Edge { node, cost };
-    let from_0 = vec![in alloc; edge(1, 7), edge(2, 1)]?;
-    let from_1 = vec![in alloc; edge(3, 2)]?;
-    let from_2 = vec![in alloc; edge(1, 3)]?;
-    let from_3 = vec![in alloc; edge(2, usize::MAX)]?;
-    let graph = vec![in alloc; from_0, from_1, from_2, from_3, Vec::new(alloc)]?;
-    finds(&rt, &graph, 0, 3, Ok(Some(6)))?;
-    finds(&rt, &graph, 2, 1, Ok(Some(3)))?;
-    finds(&rt, &graph, 1, 1, Ok(Some(0)))?;
-    finds(&rt, &graph, 4, 0, Ok(None))?;
-    finds(&rt, &graph, 1, 0, Err(PathRefusal::CostTooLarge))
 }
 
 /// Submits a job, if not too many came yet.

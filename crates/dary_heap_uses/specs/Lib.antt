@@ -1,7 +1,6 @@
 pub mod FromStd
 pub mod Keeping
 pub mod Merging
-pub mod Routes
 pub mod Scheduling
 pub mod Simulation
 pub mod Timers

@@ -6,7 +6,6 @@ pub mod calling;
 pub mod from_std;
 pub mod greatest;
 pub mod merge;
-pub mod roads;
 pub mod scheduler;
 pub mod simulation;
 pub mod timers;

@@ -5,4 +5,5 @@ pub mod Iterating
 pub mod Keys
 pub mod Making
 pub mod Places
+pub mod Routes
 pub mod Showing

@@ -31,20 +31,23 @@
 //! | [`insert`](IndexedHeap::insert) of a key with an item | the depth of its place, and `D` for each level from there down to that of the last place |
 //! | [`raise`](IndexedHeap::raise) | one more than the depth of a new place |
 //! | [`pop`](IndexedHeap::pop), [`pop_if`](IndexedHeap::pop_if), [`remove`](IndexedHeap::remove) | `D` times the depth of the last place that remains: *O*(log *n*) |
+//! | [`shortest_path_by_lowering`](shortest_path::shortest_path_by_lowering) | a `pop` for each node, a `raise` for the start and each edge |
 //! | an item of [`into_iter_sorted`](IndexedHeap::into_iter_sorted) | as `pop` |
 //! | `clone` of the trait `Clone`, for another judge than `ByOrd` | `2 * (n - 1)` |
 //! | [`get`](IndexedHeap::get), [`peek`](IndexedHeap::peek), [`iter`](IndexedHeap::iter), [`drain`](IndexedHeap::drain), [`clone`](IndexedHeap::clone), [`reserve`](IndexedHeap::reserve) and the heap's other methods | none |
 //!
 //! # Modules
 //!
-//! [`heap`] has the heap, and [`iter`] its iterators. They stand on a table of places, in which each move of an entry
-//! is written down, and that on the sifts and judges of the crate `dary_heap`.
+//! [`heap`] has the heap, [`iter`] its iterators, and [`shortest_path`] a search for a cheapest walk. They stand on a
+//! table of places, in which each move of an entry is written down, and that on the sifts and judges of the crate
+//! `dary_heap`.
 #![tactic(auto)]
 
 pub mod heap;
 pub mod iter;
 mod judge;
 mod moves;
+pub mod shortest_path;
 mod table;
 
 pub use heap::IndexedHeap;

@@ -5,7 +5,7 @@ ghost use Rattle.dary_heap.specs.Walk.{IsWithin};
 use crate::work::{Change, room};
 use dary_heap::shortest_path::{Edge, shortest_path};
 use dary_heap::sift::{ByOrd, LeastFirst};
-use dary_heap_uses::roads::{
+use indexed_heap::shortest_path::{
     CostHeap, is_graph, shortest_path_by_lowering, shortest_path_by_lowering_within,
 };
 use std::alloc::{AllocError, Global};

@@ -1,4 +1,4 @@
--- The lemmas of the module `roads`.
+-- The lemmas of the module `shortest_path`.
 pub mod Waiting
 pub mod Lowering
 pub mod Counting

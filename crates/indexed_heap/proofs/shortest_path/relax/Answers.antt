@@ -1,12 +1,12 @@
 use Rattle.dary_heap.proofs.Common.{◌≡◌, ◌<◌, arith, get_or, get_or_default, length, take_more}
 use Rattle.dary_heap.specs.declared.shortest_path.Edge.{Edge}
 use Rattle.dary_heap.proofs.shortest_path.Relaxing.{relaxes_kept, relaxes_more}
-use Rattle.dary_heap_uses.specs.Routes.{states}
-use Rattle.dary_heap_uses.proofs.roads.Counting.{raises_more}
-use Rattle.dary_heap_uses.proofs.roads.Lowering.{relaxes_lowered}
-use Rattle.dary_heap_uses.proofs.roads.Waiting.{same_room}
-use Rattle.dary_heap_uses.proofs.roads.relax.Goals.{then-next-found, else-next-found}
-use Rattle.dary_heap_uses.proofs.roads.relax.Goals as goal
+use Rattle.indexed_heap.specs.Routes.{states}
+use Rattle.indexed_heap.proofs.shortest_path.Counting.{raises_more}
+use Rattle.indexed_heap.proofs.shortest_path.Lowering.{relaxes_lowered}
+use Rattle.indexed_heap.proofs.shortest_path.Waiting.{same_room}
+use Rattle.indexed_heap.proofs.shortest_path.relax.Goals.{then-next-found, else-next-found}
+use Rattle.indexed_heap.proofs.shortest_path.relax.Goals as goal
 
 pub loop-edge-preserved : goal.loop-edge-preserved
 loop-edge-preserved g c =

@@ -1,12 +1,12 @@
 use Rattle.dary_heap.proofs.Common.{◌∙◌, ℕ, List, [], arith, ap, err_from_is_err_and, lit<, refl, replicate, subst, length-map, length_permutation}
 use Rattle.dary_heap.proofs.Bags.{has_none}
 use Rattle.dary_heap.proofs.shortest_path.Searching.{IsSearch, after_examining, found_least, found_uncritical, none_reached, none_uncritical, row_read, search_begins, taken, too_large}
-use Rattle.dary_heap_uses.specs.Routes.{states}
-use Rattle.dary_heap_uses.proofs.roads.Counting.{counted_begins, counted_ends, counted_failed, counted_goal, counted_more}
-use Rattle.dary_heap_uses.proofs.roads.Lowering.{begins_alone, low_of, row_within, state_of, states_same}
-use Rattle.dary_heap_uses.proofs.roads.Waiting.{same_room, taken_exact, taken_ready}
-use Rattle.dary_heap_uses.proofs.roads.shortest_path_by_lowering_within.Goals.{In_default}
-use Rattle.dary_heap_uses.proofs.roads.shortest_path_by_lowering_within.Goals as goal
+use Rattle.indexed_heap.specs.Routes.{states}
+use Rattle.indexed_heap.proofs.shortest_path.Counting.{counted_begins, counted_ends, counted_failed, counted_goal, counted_more}
+use Rattle.indexed_heap.proofs.shortest_path.Lowering.{begins_alone, low_of, row_within, state_of, states_same}
+use Rattle.indexed_heap.proofs.shortest_path.Waiting.{same_room, taken_exact, taken_ready}
+use Rattle.indexed_heap.proofs.shortest_path.shortest_path_by_lowering_within.Goals.{In_default}
+use Rattle.indexed_heap.proofs.shortest_path.shortest_path_by_lowering_within.Goals as goal
 
 pub loop-node-init : goal.loop-node-init
 loop-node-init g c =

@@ -1,7 +1,7 @@
 use Rattle.dary_heap.proofs.Common.{inl, inr, sym, arith, true≢false}
 use Rattle.dary_heap.proofs.Depth.{depth-later}
-use Rattle.dary_heap_uses.proofs.roads.Waiting.{all_few, has_room, raised, stays_ready}
-use Rattle.dary_heap_uses.proofs.roads.wait_at.Goals as goal
+use Rattle.indexed_heap.proofs.shortest_path.Waiting.{all_few, has_room, raised, stays_ready}
+use Rattle.indexed_heap.proofs.shortest_path.wait_at.Goals as goal
 
 pub unreachable-requires : goal.unreachable-requires
 unreachable-requires g c = elim (has_room c.requires.ready c.args.node c.requires.within) [

@@ -1,6 +1,6 @@
 use Rattle.dary_heap.proofs.Common.{length, take, RisesWithin}
-use Rattle.dary_heap_uses.specs.Routes.{HasSameRoom, IsReady, Lowers, raises_bound}
-use Rattle.dary_heap_uses.proofs.roads.relax.Given as goal
+use Rattle.indexed_heap.specs.Routes.{HasSameRoom, IsReady, Lowers, raises_bound}
+use Rattle.indexed_heap.proofs.shortest_path.relax.Given as goal
 
 abbrev pub invariant-loop-edge : goal.invariant-loop-edge
 invariant-loop-edge g l = record {

@@ -1,8 +1,8 @@
 use Rattle.dary_heap.proofs.Common.{◌+◌, length, sum}
 use Rattle.dary_heap.proofs.shortest_path.Searching.{IsSearch}
-use Rattle.dary_heap_uses.specs.Routes.{HasSameRoom, IsReady, states}
-use Rattle.dary_heap_uses.proofs.roads.Counting.{IsCounted}
-use Rattle.dary_heap_uses.proofs.roads.shortest_path_by_lowering_within.Given as goal
+use Rattle.indexed_heap.specs.Routes.{HasSameRoom, IsReady, states}
+use Rattle.indexed_heap.proofs.shortest_path.Counting.{IsCounted}
+use Rattle.indexed_heap.proofs.shortest_path.shortest_path_by_lowering_within.Given as goal
 
 abbrev pub invariant-loop-node : goal.invariant-loop-node
 invariant-loop-node g l = record {

@@ -1,4 +1,4 @@
-//! Shortest paths by lowering: Dijkstra's search over an indexed heap.
+//! Shortest paths by lowering: Dijkstra's search over a heap whose keys are the nodes.
 //!
 //! [`shortest_path_by_lowering`] returns what the search of `dary_heap` does. If it finds a cheaper walk to a node that
 //! waits, it lowers the cost that the node waits with. So a node waits once at most, and all memory is allocated before
@@ -9,11 +9,11 @@ ghost use Rattle.dary_heap.specs.Bounds.{RisesWithin, push_bound};
 ghost use Rattle.dary_heap.specs.Walk.{IsWithin, IsLeastCost, IsUnreached, HasCritical, NoneCriticalBelow};
 ghost use Rattle.dary_heap.specs.declared.shortest_path.PathRefusal.TheVariants.{CostTooLarge};
 ghost use Rattle.dary_heap.specs.shortest_path.Searching.{HasTooLarge};
-ghost use Rattle.dary_heap_uses.specs.Routes.{HasSameRoom, IsReady, Lowers, Waits, raises_bound, search_bound};
+ghost use Rattle.indexed_heap.specs.Routes.{HasSameRoom, IsReady, Lowers, Waits, raises_bound, search_bound};
 
+use crate::heap::IndexedHeap;
 use dary_heap::shortest_path::{Edge, PathRefusal};
 use dary_heap::sift::{ByOrd, LeastFirst};
-use indexed_heap::IndexedHeap;
 use std::alloc::Global;
 
 /// Nodes that wait, each with a cost. The cheapest comes out first.
@@ -29,7 +29,7 @@ pub struct TooLarge;
 ///
 /// ```
 /// use dary_heap::shortest_path::Edge;
-/// use dary_heap_uses::roads::is_graph;
+/// use indexed_heap::shortest_path::is_graph;
 /// let from_0 = vec![in alloc; Edge { node: 1, cost: 7 }]?;
 /// let mut graph = vec![in alloc; from_0]?;
 /// assert!(rt; !is_graph(&graph));
@@ -72,7 +72,7 @@ fn leads_below(edges: &Vec<Edge>, nodes: usize) -> bool
 ///
 /// ```
 /// use dary_heap::shortest_path::Edge;
-/// use dary_heap_uses::roads::shortest_path_by_lowering;
+/// use indexed_heap::shortest_path::shortest_path_by_lowering;
 /// let from_0 = vec![in alloc; Edge { node: 1, cost: 7 }, Edge { node: 2, cost: 1 }]?;
 /// let from_2 = vec![in alloc; Edge { node: 1, cost: 3 }]?;
 /// let graph = vec![in alloc; from_0, Vec::new(alloc), from_2]?;
@@ -125,7 +125,7 @@ pub fn shortest_path_by_lowering(
 /// ```
 /// use dary_heap::shortest_path::Edge;
 /// use dary_heap::sift::{ByOrd, LeastFirst};
-/// use dary_heap_uses::roads::{CostHeap, shortest_path_by_lowering_within};
+/// use indexed_heap::shortest_path::{CostHeap, shortest_path_by_lowering_within};
 /// let from_0 = vec![in alloc; Edge { node: 1, cost: 7 }]?;
 /// let graph = vec![in alloc; from_0, Vec::new(alloc)]?;
 /// let mut found = [0; 2];

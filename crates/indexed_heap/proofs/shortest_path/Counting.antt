@@ -8,9 +8,9 @@ use Rattle.dary_heap.proofs.shortest_path.Examining.{AreOnce, distinct_node, onc
 use Rattle.dary_heap.specs.declared.shortest_path.Edge.{Edge}
 use Rattle.dary_heap.specs.declared.shortest_path.State.{State}
 use Rattle.indexed_heap.specs.Entries.{Indexed}
-use Rattle.dary_heap_uses.specs.Routes.{IsReady, Waits, raises_bound, search_bound, states}
-use Rattle.dary_heap_uses.proofs.roads.Lowering.{begins_alone, states_same}
-use Rattle.dary_heap_uses.proofs.roads.Waiting.{all_few, distinct_few, taken_exact, taken_within}
+use Rattle.indexed_heap.specs.Routes.{IsReady, Waits, raises_bound, search_bound, states}
+use Rattle.indexed_heap.proofs.shortest_path.Lowering.{begins_alone, states_same}
+use Rattle.indexed_heap.proofs.shortest_path.Waiting.{all_few, distinct_few, taken_exact, taken_within}
 
 -- raises one after another
 pub raises_more : (D n raises : ℕ) {start mid after : ℕ} → RisesWithin start mid (raises_bound D n raises) → RisesWithin mid after (push_bound D n + 1) →
