@@ -16,19 +16,20 @@
 
 /// Does a workload over the heap `$of` of the arity that a number names, 1 to 8.
 macro_rules! at_arity {
-    ($arity:expr, $of:ident<$item:ty>, $work:ident<$($type:ty)?>($($given:expr),*)) => {
-        match $arity {
-            1 => $work::<$($type,)? $of<$item, 1>>($($given),*).unwrap_or(u64::MAX),
-            2 => $work::<$($type,)? $of<$item, 2>>($($given),*).unwrap_or(u64::MAX),
-            3 => $work::<$($type,)? $of<$item, 3>>($($given),*).unwrap_or(u64::MAX),
-            4 => $work::<$($type,)? $of<$item, 4>>($($given),*).unwrap_or(u64::MAX),
-            5 => $work::<$($type,)? $of<$item, 5>>($($given),*).unwrap_or(u64::MAX),
-            6 => $work::<$($type,)? $of<$item, 6>>($($given),*).unwrap_or(u64::MAX),
-            7 => $work::<$($type,)? $of<$item, 7>>($($given),*).unwrap_or(u64::MAX),
-            8 => $work::<$($type,)? $of<$item, 8>>($($given),*).unwrap_or(u64::MAX),
-            _ => u64::MAX,
-        }
-    };
+    ($arity:expr, $of:ident<$item:ty>, $work:ident<$($type:ty)?>($($given:expr),*)) => {{
+        let written = match $arity {
+            1 => $work::<$($type,)? $of<$item, 1>>($($given),*),
+            2 => $work::<$($type,)? $of<$item, 2>>($($given),*),
+            3 => $work::<$($type,)? $of<$item, 3>>($($given),*),
+            4 => $work::<$($type,)? $of<$item, 4>>($($given),*),
+            5 => $work::<$($type,)? $of<$item, 5>>($($given),*),
+            6 => $work::<$($type,)? $of<$item, 6>>($($given),*),
+            7 => $work::<$($type,)? $of<$item, 7>>($($given),*),
+            8 => $work::<$($type,)? $of<$item, 8>>($($given),*),
+            _ => Err(AllocError),
+        };
+        written.unwrap_or(u64::MAX)
+    }};
 }
 
 /// Does it over the heap that a number names: the language's own if it is 0, else `DaryHeap` of that arity.

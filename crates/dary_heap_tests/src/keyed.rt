@@ -13,9 +13,7 @@ use std::mem;
 #[test]
 fn entries_are_read_changed_and_removed_by_key(rt: HostRuntime) -> Tested {
     let mut heap = IndexedHeap::<u32, 4>::with_capacity(rt.alloc(), 2, 9)?;
-    assert_eq!(rt; heap.len(), 0);
-    assert!(rt; heap.is_empty());
-    assert_eq!(rt; heap.keys(), 9);
+    assert_eq!(rt; (heap.len(), heap.is_empty(), heap.keys()), (0, true, 9));
     inserts_and_raises(&rt, &mut heap)?;
     reads(&rt, &heap)?;
     removes_and_pops(&rt, &mut heap)
@@ -23,30 +21,27 @@ fn entries_are_read_changed_and_removed_by_key(rt: HostRuntime) -> Tested {
 
 /// Inserts 10 and then 50 at key 8, and 30 at key 6, which is raised to 60.
 fn inserts_and_raises(rt: &impl Host, heap: &mut IndexedHeap<u32, 4>) -> Tested {
-    assert_eq!(rt; heap.insert(8, 10), Ok(None));
-    assert_eq!(rt; heap.insert(6, 30), Ok(None));
-    assert_eq!(rt; heap.insert(8, 50), Ok(Some(10)));
-    assert_eq!(rt; heap.raise(6, 20), Ok(false));
-    assert_eq!(rt; heap.raise(6, 60), Ok(true));
+    let inserted = [heap.insert(8, 10), heap.insert(6, 30), heap.insert(8, 50)];
+    assert_eq!(rt; inserted, [Ok(None), Ok(None), Ok(Some(10))]);
+    for (item, raised) in [(20, false), (60, true)] {
+        assert_eq!(rt; heap.raise(6, item), Ok(raised));
+    }
     assert_eq!(rt; heap.insert(usize::MAX, 1), Err(1));
     Ok(())
 }
 
 /// Reads these two entries.
 fn reads(rt: &impl Host, heap: &IndexedHeap<u32, 4>) -> Tested {
-    assert_eq!(rt; heap.get(6), Some(&60));
-    assert!(rt; heap.contains_key(8) && !heap.contains_key(7));
+    assert_eq!(rt; [heap.contains_key(8), heap.contains_key(7)], [true, false]);
     assert_eq!(rt; heap.as_slice(), [(6, 60), (8, 50)].as_slice());
-    assert_eq!(rt; heap.peek(), Some((6, &60)));
+    assert_eq!(rt; (heap.get(6), heap.peek()), (Some(&60), Some((6, &60))));
     Ok(())
 }
 
 /// Removes these two entries.
 fn removes_and_pops(rt: &impl Host, heap: &mut IndexedHeap<u32, 4>) -> Tested {
-    assert_eq!(rt; heap.remove(8), Some(50));
-    assert_eq!(rt; heap.remove(8), None);
-    assert_eq!(rt; heap.pop(), Some((6, 60)));
-    assert_eq!(rt; heap.pop(), None);
+    assert_eq!(rt; [heap.remove(8), heap.remove(8)], [Some(50), None]);
+    assert_eq!(rt; [heap.pop(), heap.pop()], [Some((6, 60)), None]);
     Ok(())
 }
 
@@ -61,11 +56,9 @@ fn the_least_comes_first_by_a_judge(rt: HostRuntime) -> Tested {
         assert_eq!(rt; heap.insert(key, item), Ok(None));
     }
     assert_eq!(rt; heap.judge().0.made(), 2);
-    assert_eq!(rt;
-        heap.pop_if(|key, item| key == 4 && *item < 30),
-        Some((4, 20))
-    );
-    assert_eq!(rt; heap.pop_if(|key, item| key == 4 && *item < 30), None);
+    for popped in [Some((4, 20)), None] {
+        assert_eq!(rt; heap.pop_if(|key, item| key == 4 && *item < 30), popped);
+    }
     heap.clear();
     assert!(rt; heap.is_empty());
     Ok(())
@@ -87,16 +80,16 @@ fn entries_are_iterated_and_copied(rt: HostRuntime) -> Tested {
 /// Takes a copy's entries in their order.
 fn sorts_a_copy(rt: &impl Host, heap: &IndexedHeap<u32, 3>) -> Tested {
     let mut sorted = heap.clone()?.into_iter_sorted().clone()?;
-    assert_eq!(rt; sorted.next(), Some((1, 40)));
-    assert_eq!(rt; sorted.next(), Some((2, 30)));
+    let first = [sorted.next(), sorted.next()];
+    assert_eq!(rt; first, [Some((1, 40)), Some((2, 30))]);
     Ok(())
 }
 
 /// Takes a copy's entries as they lie.
 fn iterates_a_copy(rt: &impl Host, heap: &IndexedHeap<u32, 3>) -> Tested {
     let mut entries = heap.clone()?.into_iter().clone()?;
-    assert_eq!(rt; entries.next(), Some((1, 40)));
-    assert_eq!(rt; entries.next_back(), Some((2, 30)));
+    let ends = [entries.next(), entries.next_back()];
+    assert_eq!(rt; ends, [Some((1, 40)), Some((2, 30))]);
     Ok(())
 }
 
@@ -104,20 +97,18 @@ fn iterates_a_copy(rt: &impl Host, heap: &IndexedHeap<u32, 3>) -> Tested {
 fn iterates(rt: &impl Host, heap: &IndexedHeap<u32, 3>) -> Tested {
     assert_eq!(rt; Iter::<u32>::default().next(), None);
     let mut shown = heap.iter();
-    assert_eq!(rt; shown.next(), Some((1, &40)));
-    assert_eq!(rt; shown.next_back(), Some((2, &30)));
+    let ends = [shown.next(), shown.next_back()];
+    assert_eq!(rt; ends, [Some((1, &40)), Some((2, &30))]);
     Ok(())
 }
 
 /// Takes the entries out, and then the heap.
 fn drains_and_takes(rt: &impl Host, heap: &mut IndexedHeap<u32, 3>) -> Tested {
     assert_eq!(rt; heap.drain().next(), Some((1, 40)));
-    assert!(rt; heap.is_empty());
-    assert_eq!(rt; heap.insert(4, 7), Ok(None));
+    assert_eq!(rt; (heap.is_empty(), heap.insert(4, 7)), (true, Ok(None)));
     assert_eq!(rt; mem::try_take(heap)?.pop(), Some((4, 7)));
     let made = IndexedHeap::<u32, 3>::made_with(rt.alloc());
-    assert_eq!(rt; made.len(), 0);
-    assert_eq!(rt; heap.len(), 0);
+    assert_eq!(rt; [made.len(), heap.len()], [0, 0]);
     Ok(())
 }
 
@@ -137,19 +128,16 @@ fn copies_by_its_judge(rt: &impl Host, heap: &IndexedHeap<u32, 4, LeastFirst<ByO
     let mut copy = heap.clone()?;
     assert_eq!(rt; copy.pop(), Some((9, 10)));
     let mut sorted = copy.into_iter_sorted().clone()?;
-    assert_eq!(rt; sorted.next(), Some((4, 20)));
-    assert_eq!(rt; sorted.len(), 1);
+    assert_eq!(rt; (sorted.next(), sorted.len()), (Some((4, 20)), 1));
     Ok(())
 }
 
 /// Gives back the room for all but 10 and 30, and then all that isn't used.
 fn gives_room_back(rt: &impl Host, heap: &mut IndexedHeap<u32, 4, LeastFirst<ByOrd>>) -> Tested {
     heap.shrink_to(10, 30)?;
-    assert_eq!(rt; heap.capacity(), 10);
-    assert_eq!(rt; heap.keys(), 30);
+    assert_eq!(rt; [heap.capacity(), heap.keys()], [10, 30]);
     heap.shrink_to_fit()?;
-    assert_eq!(rt; heap.capacity(), 3);
-    assert_eq!(rt; heap.keys(), 10);
+    assert_eq!(rt; [heap.capacity(), heap.keys()], [3, 10]);
     Ok(())
 }
 

@@ -17,9 +17,7 @@ use std::cmp::Reverse;
 // Each place but the first has a parent.
 #[test]
 fn places_have_parents(rt: HostRuntime) {
-    assert_eq!(rt; parent::<0>(2), 1);
-    assert_eq!(rt; parent::<2>(6), 2);
-    assert_eq!(rt; parent::<4>(8), 1);
+    assert_eq!(rt; [parent::<0>(2), parent::<2>(6), parent::<4>(8)], [1, 2, 1]);
 }
 
 // What `into_vec` gives is in heap order at the same arity, as `from_raw_vec` needs it, and the iterators end.
@@ -44,8 +42,8 @@ fn a_clone_is_a_heap_of_its_own(rt: HostRuntime) -> Tested {
     let heap = BinaryHeap::from([1, 2, 3, 4, 5].to_vec(rt.alloc())?);
     let mut copy = heap.clone()?;
     assert_eq!(rt; copy.as_slice(), [5, 4, 3, 1, 2].as_slice());
-    assert_eq!(rt; copy.pop(), Some(5));
-    assert_eq!(rt; heap.as_slice(), [5, 4, 3, 1, 2].as_slice());
+    let both = (copy.pop(), heap.as_slice());
+    assert_eq!(rt; both, (Some(5), [5, 4, 3, 1, 2].as_slice()));
     assert!(rt; BinaryHeap::<i32>::new(rt.alloc()).clone()?.is_empty());
     Ok(())
 }
@@ -56,8 +54,7 @@ fn a_clone_is_a_sorted_iterator_of_its_own(rt: HostRuntime) -> Tested {
     let heap = BinaryHeap::from([1, 2, 3].to_vec(rt.alloc())?);
     let mut sorted = heap.clone()?.into_iter_sorted();
     let mut copy = sorted.clone()?;
-    assert_eq!(rt; sorted.next(), Some(3));
-    assert_eq!(rt; copy.next(), Some(3));
+    assert_eq!(rt; [sorted.next(), copy.next()], [Some(3); 2]);
     Ok(())
 }
 
@@ -68,8 +65,7 @@ fn a_clone_is_an_iterator_of_its_own(rt: HostRuntime) -> Tested {
     let mut items = heap.into_iter();
     assert_eq!(rt; items.next(), Some(3));
     let mut copy = items.clone()?;
-    assert_eq!(rt; items.next(), Some(2));
-    assert_eq!(rt; copy.next(), Some(2));
+    assert_eq!(rt; [items.next(), copy.next()], [Some(2); 2]);
     Ok(())
 }
 
@@ -81,10 +77,10 @@ fn is_even(item: &i32) -> bool {
 #[test]
 fn a_pop_comes_if_the_predicate_returns_true(rt: HostRuntime) -> Tested {
     let mut heap = BinaryHeap::from([1, 2].to_vec(rt.alloc())?);
-    assert_eq!(rt; heap.pop_if(is_even), Some(2));
-    assert_eq!(rt; heap.as_slice(), [1].as_slice());
-    assert_eq!(rt; heap.pop_if(is_even), None);
-    assert_eq!(rt; heap.as_slice(), [1].as_slice());
+    for popped in [Some(2), None] {
+        assert_eq!(rt; heap.pop_if(is_even), popped);
+        assert_eq!(rt; heap.as_slice(), [1].as_slice());
+    }
     Ok(())
 }
 
@@ -134,8 +130,8 @@ fn mend<const D: usize>(
     let mut judge = Tally::new();
     assert!(rt; start <= items.len());
     mend_with::<i32, Tally, D>(&mut items, start, &mut judge);
-    assert_eq!(rt; items.as_slice(), after);
-    assert_eq!(rt; judge.made(), made, "{before:?} from {start}");
+    let seen = (items.as_slice(), judge.made());
+    assert_eq!(rt; seen, (after, made), "{before:?} from {start}");
     Ok(())
 }
 
@@ -181,16 +177,12 @@ fn the_first_item_goes_to_the_end(rt: HostRuntime) -> Tested {
     let mut items = [5, 3, 4, 1, 2];
     let mut judge = Tally::new();
     pop_to_end_with::<i32, Tally, 2>(&mut items, &mut judge);
-    assert_eq!(rt; items, [4, 3, 2, 1, 5]);
-    assert_eq!(rt; judge.made(), 2);
+    assert_eq!(rt; (items, judge.made()), ([4, 3, 2, 1, 5], 2));
     items[0] = 0;
-    pop_to_end_with::<i32, Tally, 2>(&mut items[..4], &mut judge);
-    assert_eq!(rt; items, [3, 1, 2, 0, 5]);
-    assert_eq!(rt; judge.made(), 4);
-    pop_to_end_with::<i32, Tally, 2>(&mut items[..1], &mut judge);
-    pop_to_end_with::<i32, Tally, 2>(&mut items[..0], &mut judge);
-    assert_eq!(rt; items, [3, 1, 2, 0, 5]);
-    assert_eq!(rt; judge.made(), 4);
+    for len in [4, 1, 0] {
+        pop_to_end_with::<i32, Tally, 2>(&mut items[..len], &mut judge);
+        assert_eq!(rt; (items, judge.made()), ([3, 1, 2, 0, 5], 4));
+    }
     Ok(())
 }
 
@@ -201,11 +193,9 @@ fn an_item_is_changed_and_moved_to_the_end(rt: HostRuntime) -> Tested {
     let mut judge = Tally::new();
     items[1] = 0;
     fix_with::<i32, Tally, 2>(&mut items, 1, &mut judge);
-    assert_eq!(rt; items, [9, 2, 7, 1, 0]);
-    assert_eq!(rt; judge.made(), 3);
+    assert_eq!(rt; (items, judge.made()), ([9, 2, 7, 1, 0], 3));
     remove_with::<i32, Tally, 2>(&mut items, 0, &mut judge);
-    assert_eq!(rt; items, [7, 2, 0, 1, 9]);
-    assert_eq!(rt; judge.made(), 5);
+    assert_eq!(rt; (items, judge.made()), ([7, 2, 0, 1, 9], 5));
     Ok(())
 }
 
@@ -215,20 +205,14 @@ fn a_sift_returns_the_place_where_the_item_stops(rt: HostRuntime) -> Tested {
     let mut items = [9, 5, 7, 1, 2];
     let mut judge = Tally::new();
     items[4] = 8;
-    assert_eq!(rt; sift_up_with::<i32, Tally, 2>(&mut items, 4, &mut judge), 1);
-    assert_eq!(rt; items, [9, 8, 7, 1, 5]);
-    assert_eq!(rt; judge.made(), 2);
+    let stop = sift_up_with::<i32, Tally, 2>(&mut items, 4, &mut judge);
+    assert_eq!(rt; (stop, items, judge.made()), (1, [9, 8, 7, 1, 5], 2));
     items[1] = 0;
-    assert_eq!(rt; sift_with::<i32, Tally, 2>(&mut items, 1, &mut judge), 4);
-    assert_eq!(rt; items, [9, 5, 7, 1, 0]);
-    assert_eq!(rt; judge.made(), 2 + 3);
+    let stop = sift_with::<i32, Tally, 2>(&mut items, 1, &mut judge);
+    assert_eq!(rt; (stop, items, judge.made()), (4, [9, 5, 7, 1, 0], 2 + 3));
     items[0] = 4;
-    assert_eq!(rt;
-        sift_to_bottom_with::<i32, Tally, 2>(&mut items, &mut judge),
-        2
-    );
-    assert_eq!(rt; items, [7, 5, 4, 1, 0]);
-    assert_eq!(rt; judge.made(), 2 + 3 + 2);
+    let stop = sift_to_bottom_with::<i32, Tally, 2>(&mut items, &mut judge);
+    assert_eq!(rt; (stop, items, judge.made()), (2, [7, 5, 4, 1, 0], 5 + 2));
     Ok(())
 }
 
@@ -241,8 +225,8 @@ fn an_item_of_a_heap_is_removed_and_replaced_at_its_place(rt: HostRuntime) -> Te
     }
     assert_eq!(rt; heap.as_slice(), [9, 5, 2, 1].as_slice());
     assert!(rt; 3 < heap.len());
-    assert_eq!(rt; heap.replace_at(3, 6), 1);
-    assert_eq!(rt; heap.as_slice(), [9, 6, 2, 5].as_slice());
+    let replaced = heap.replace_at(3, 6);
+    assert_eq!(rt; (replaced, heap.as_slice()), (1, [9, 6, 2, 5].as_slice()));
     Ok(())
 }
 
@@ -282,13 +266,13 @@ fn a_flipped_judge_gives_the_least_first(rt: HostRuntime) -> Tested {
         tally: Tally::new(),
     };
     build_with::<_, _, 2>(&mut items, &mut judge);
-    assert_eq!(rt; items.as_slice(), [1, 2, 4, 5, 3].as_slice());
-    assert_eq!(rt; judge.tally.made(), 6);
+    let seen = (items.as_slice(), judge.tally.made());
+    assert_eq!(rt; seen, ([1, 2, 4, 5, 3].as_slice(), 6));
     assert_eq!(rt; pop_with::<_, _, 2>(&mut items, &mut judge), Some(1));
-    assert_eq!(rt; items.as_slice(), [2, 3, 4, 5].as_slice());
-    assert_eq!(rt; judge.tally.made(), 6 + 3);
+    let seen = (items.as_slice(), judge.tally.made());
+    assert_eq!(rt; seen, ([2, 3, 4, 5].as_slice(), 6 + 3));
     push_with::<_, _, 2>(&mut items, 0, &mut judge)?;
-    assert_eq!(rt; items.as_slice(), [0, 2, 4, 5, 3].as_slice());
-    assert_eq!(rt; judge.tally.made(), 6 + 3 + 2);
+    let seen = (items.as_slice(), judge.tally.made());
+    assert_eq!(rt; seen, ([0, 2, 4, 5, 3].as_slice(), 6 + 3 + 2));
     Ok(())
 }

@@ -79,16 +79,15 @@ fn equal_priorities_come_in_their_order(rt: HostRuntime) -> Tested {
     let mut scheduler = Scheduler::new(rt.alloc());
     scheduler.reserve(5, 5)?;
     let jobs = ["write", "cook", "sweep", "eat", "read"];
-    for (id, (priority, job)) in [2, 7, 2, 7, 2].into_iter().zip(jobs).enumerate() {
-        assert!(rt; submit(&rt, &mut scheduler, id, priority, job));
+    for id in 0..5 {
+        assert!(rt; submit(&rt, &mut scheduler, id, [2, 7, 2, 7, 2][id], jobs[id]));
     }
     assert!(rt; scheduler.reprioritise(4, 7));
     assert!(rt; scheduler.cancel(2).is_some_and(|it| it.job == "sweep"));
     for job in ["cook", "eat", "read", "write"] {
         assert!(rt; scheduler.next().is_some_and(|(_, it)| it.job == job));
     }
-    assert_eq!(rt; scheduler.len(), 0);
-    assert_eq!(rt; scheduler.came(), 5);
+    assert_eq!(rt; (scheduler.len(), scheduler.came()), (0, 5));
     Ok(())
 }
 
@@ -132,14 +131,17 @@ fn balls_bounce_in_the_order_of_moments(rt: HostRuntime) -> Tested {
     let mut events = TimerQueue::<3>::new(rt.alloc());
     events.set(0, 0)?;
     events.set(1, 3)?;
-    // Bounces at 0, 3 and 8.
-    assert_eq!(rt; run(&mut events, &mut balls, 9, 100).ok(), Some(3));
-    // Bounces at 12 and 14, and no budget for more.
-    assert_eq!(rt; run(&mut events, &mut balls, 100, 2).ok(), Some(2));
+    // Bounces at 0, 3 and 8, then at 12 and 14, and no budget for more.
+    for (end, budget, handled) in [(9, 100, 3), (100, 2, 2)] {
+        assert_eq!(rt;
+            run(&mut events, &mut balls, end, budget).ok(),
+            Some(handled)
+        );
+    }
     assert_eq!(rt; events.moment_of(1), Some(23));
     // The first lies at 15, and the second is caught.
-    assert_eq!(rt; run(&mut events, &mut balls, 100, 100).ok(), Some(1));
-    assert_eq!(rt; events.len(), 0);
+    let last = run(&mut events, &mut balls, 100, 100).ok();
+    assert_eq!(rt; (last, events.len()), (Some(1), 0));
     let bounces = [(0, 0), (1, 3), (0, 8), (0, 12), (0, 14), (0, 15)];
     assert_eq!(rt; balls.bounces.as_slice(), bounces.as_slice());
     Ok(())
