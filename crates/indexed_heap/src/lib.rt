@@ -31,7 +31,7 @@
 //! | [`insert`](IndexedHeap::insert) of a key with an item | the depth of its place, and `D` for each level from there down to that of the last place |
 //! | [`raise`](IndexedHeap::raise) | one more than the depth of a new place |
 //! | [`pop`](IndexedHeap::pop), [`pop_if`](IndexedHeap::pop_if), [`remove`](IndexedHeap::remove) | `D` times the depth of the last place that remains: *O*(log *n*) |
-//! | [`shortest_path_by_lowering`](shortest_path::shortest_path_by_lowering) | a `pop` for each node, a `raise` for the start and each edge |
+//! | [`shortest_path_by_lowering_within`](shortest_path::shortest_path_by_lowering_within) | a `pop` for each node, and a `raise` for the start and each edge |
 //! | an item of [`into_iter_sorted`](IndexedHeap::into_iter_sorted) | as `pop` |
 //! | `clone` of the trait `Clone`, for another judge than `ByOrd` | `2 * (n - 1)` |
 //! | [`get`](IndexedHeap::get), [`peek`](IndexedHeap::peek), [`iter`](IndexedHeap::iter), [`drain`](IndexedHeap::drain), [`clone`](IndexedHeap::clone), [`reserve`](IndexedHeap::reserve) and the heap's other methods | none |
