@@ -1,5 +1,5 @@
 //! Calls of public functions that have a precondition, at concrete types, and a judge of the caller's own. Those
-//! of the searches are in `uses`.
+//! of the searches are in `keyed`.
 ghost use Rattle.std.specs.Cmp.{back_total, int_cmp_total};
 ghost use Rattle.std.specs.Ordering.{int_cmp};
 

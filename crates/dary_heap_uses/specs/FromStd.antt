@@ -1,8 +1,8 @@
 -- Prices in a heap that takes the place of std's, and what its callers take out of it.
-use Rattle.std.specs.Prelude.{◌≡◌, ◌≢◌, ℕ, ◌+◌, ◌≤◌, nat_le, List, [], ◌∷◌, slice_get, Option, Some, None, All, Contains, filter}
+use Rattle.std.specs.Prelude.{◌≡◌, ℕ, ◌≤◌, nat_le, List, [], slice_get, Some, All, Contains, filter}
 use Rattle.std.specs.BTreeMap.{BTreeMap, get}
+use Rattle.std.specs.Option.{option_map_or}
 use Rattle.std.specs.Ordering.{nat_cmp}
-use Rattle.dary_heap.specs.Bag.{IsSameBag}
 use Rattle.dary_heap.specs.Contents.{Contents}
 
 -- no price is higher
@@ -17,14 +17,6 @@ up_to limit prices = filter (λ price. nat_le price limit) prices
 abbrev pub Falls : List ℕ → Type 0
 Falls prices = (i j x y : ℕ) → i ≤ j → slice_get prices i ≡ Some x → slice_get prices j ≡ Some y → y ≤ x
 
--- two prices were taken out, the first exceeds the second by the lead, and none that stays exceeds the second
-pub record IsLead (old : List ℕ) (lead : ℕ) (new : List ℕ) : Type 0 where
-  pub first : ℕ
-  pub second : ℕ
-  pub bag : IsSameBag old (first ∷ second ∷ new)
-  pub exceeds : first ≡ second + lead
-  pub below : NoneHigher second new
-
 -- both ends are among the prices, and no price is lower than the one or higher than the other
 pub record IsRange (prices : List ℕ) (low high : ℕ) : Type 0 where
   pub has_low : Contains prices low
@@ -32,19 +24,6 @@ pub record IsRange (prices : List ℕ) (low high : ℕ) : Type 0 where
   pub none_lower : All (λ price. low ≤ price) prices
   pub none_higher : NoneHigher high prices
 
--- the prices of a heap, none if there is no heap
-abbrev pub prices_of : Option (Contents ℕ) → List ℕ
-prices_of None = []
-prices_of (Some heap) = heap.items
-
--- the prices for a place
+-- the prices for a place, none if there is no heap for it
 abbrev pub prices_at : ℕ → BTreeMap ℕ (Contents ℕ) → List ℕ
-prices_at place places = prices_of (get nat_cmp places place)
-
--- the price came to those for the place
-abbrev pub IsAddedAt : ℕ → ℕ → BTreeMap ℕ (Contents ℕ) → BTreeMap ℕ (Contents ℕ) → Type 0
-IsAddedAt place price old new = IsSameBag (price ∷ prices_at place old) (prices_at place new)
-
--- the heaps of all other places are as they were
-abbrev pub IsKeptElsewhere : ℕ → BTreeMap ℕ (Contents ℕ) → BTreeMap ℕ (Contents ℕ) → Type 0
-IsKeptElsewhere place old new = (other : ℕ) → other ≢ place → get nat_cmp new other ≡ get nat_cmp old other
+prices_at place places = option_map_or (λ heap. heap.items) (get nat_cmp places place) []

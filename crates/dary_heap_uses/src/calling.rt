@@ -1,12 +1,12 @@
 //! The functions that the README shows without contracts, and others, each of which shows a call.
 ghost use Rattle.std.specs.Ordering.{nat_cmp};
-ghost use Rattle.std.specs.Prelude.{◌≡◌, ◌+◌, ◌<◌, ◌≤◌, ◌↔◌, ◌∷◌, [], ℕ, All, length, set, Some, IsSome, IfSome, IfNone, IfOk, IfErr};
+ghost use Rattle.std.specs.Prelude.{◌≡◌, ◌+◌, ◌<◌, ◌≤◌, ◌↔◌, ◌∷◌, [], ℕ, length, set, Some, IsSome, IfSome, IfNone, IfOk, IfErr};
 ghost use Rattle.dary_heap.specs.Bag.{IsGreatest, IsSameBag};
 ghost use Rattle.dary_heap.specs.Bounds.{RisesWithin, pop_bound, sink_bound};
 ghost use Rattle.dary_heap.specs.HeapOrder.{IsHeapOrdered};
 ghost use Rattle.dary_heap.specs.State.{front};
 
-use dary_heap::sift::{ByOrd, LeastFirst, fix_with};
+use dary_heap::sift::{ByOrd, fix_with};
 use dary_heap::{BinaryHeap, DaryHeap, TernaryHeap};
 use std::alloc::Global;
 use std::mem;
@@ -39,17 +39,6 @@ pub fn take_from(heap: &mut TernaryHeap<u32>, bound: u32) -> Option<u32>
 ///
 /// A lesser item takes the place of the greatest through a loan: one way down, where a push and a pop take
 /// a way up and a way down.
-///
-/// # Examples
-///
-/// ```
-/// use dary_heap::DaryHeap;
-/// use dary_heap_uses::calling::push_pop;
-/// let mut heap = DaryHeap::<_, 3>::from(vec![in alloc; 3, 8, 1]?);
-/// assert_eq!(rt; push_pop(&mut heap, 5), 8);
-/// assert_eq!(rt; push_pop(&mut heap, 9), 9);
-/// assert_eq!(rt; heap.as_slice(), [5, 3, 1].as_slice());
-/// ```
 pub fn push_pop<T: Ord + Drop, const D: usize>(heap: &mut DaryHeap<T, D>, item: T) -> T
     ensures bag { IsSameBag (item ∷ heap.old.items) (result ∷ heap.new.items) }
     ensures greatest { IsGreatest T.cmp (item ∷ heap.old.items) result }
@@ -93,26 +82,8 @@ pub fn greatest_two<const D: usize>(heap: &mut DaryHeap<u32, D>) -> Option<(u32,
     Some((first, second))
 }
 
-/// Takes a least number out of a heap whose judge has the order the other way round.
-pub fn pop_least<const D: usize>(heap: &mut DaryHeap<u32, D, LeastFirst<ByOrd>>) -> Option<u32>
-    ensures some { IsSome result ↔ (0 < length heap.old.items) }
-    ensures least { IfSome result (λ number. All (λ other. number ≤ other) heap.new.items) }
-    ensures bag { IfSome result (λ number. IsSameBag heap.old.items (number ∷ heap.new.items)) }
-{
-    heap.pop()
-}
-
 /// Puts another number at a place, below the length, of a slice that is heap ordered at arity 4, and leaves
 /// it so.
-///
-/// # Examples
-///
-/// ```
-/// use dary_heap_uses::calling::change;
-/// let mut items = [9, 5, 7, 1, 2];
-/// change(&mut items, 3, 10);
-/// assert_eq!(rt; items, [10, 5, 7, 9, 2]);
-/// ```
 pub fn change(items: &mut [u64], place: usize, item: u64)
     requires heap { IsHeapOrdered nat_cmp 4 items.old }
     requires there { place < length items.old }

@@ -1,8 +1,10 @@
 //! Callers for whom this heap takes the place of std's `BinaryHeap`.
 ghost use Rattle.std.specs.BinaryHeap.{IsHeap, heap_items};
-ghost use Rattle.std.specs.Prelude.{◌≡◌, ◌+◌, ◌-◌, ◌<◌, ◌≤◌, ◌↔◌, [], ◌∷◌, ◌++◌, nat_lt, All, count_by, length, vec_len, IsOk, IsSome, IfSome, IfNone, IfOk, OnOk, OnErr};
+ghost use Rattle.std.specs.BTreeMap.{get};
+ghost use Rattle.std.specs.Ordering.{nat_cmp};
+ghost use Rattle.std.specs.Prelude.{◌≡◌, ◌≢◌, ℕ, ◌+◌, ◌<◌, ◌≤◌, ◌↔◌, [], ◌∷◌, ◌++◌, nat_lt, All, count_by, length, vec_len, IsOk, IsSome, IfSome, IfNone, IfOk, OnOk, OnErr};
 ghost use Rattle.dary_heap.specs.Bag.{IsSameBag};
-ghost use Rattle.dary_heap_uses.specs.FromStd.{NoneHigher, up_to, Falls, IsLead, IsRange, prices_at, IsAddedAt, IsKeptElsewhere};
+ghost use Rattle.dary_heap_uses.specs.FromStd.{NoneHigher, up_to, Falls, IsRange, prices_at};
 
 use dary_heap::{BinaryHeap, DaryHeap};
 use std::alloc::{AllocError, Global};
@@ -28,18 +30,6 @@ pub fn highest(prices: &mut BinaryHeap<u32>) -> Option<u32>
     prices.pop()
 }
 
-/// Takes the two highest prices out and returns by how much the first exceeds the second, or `None` if there
-/// were fewer than two. A single price is taken out too.
-pub fn lead(prices: &mut BinaryHeap<u32>) -> Option<u32>
-    ensures some { IsSome result ↔ (2 ≤ length prices.old.items) }
-    ensures lead { IfSome result (λ lead. IsLead prices.old.items lead prices.new.items) }
-    ensures len { length prices.new.items ≡ length prices.old.items - 2 }
-{
-    let first = prices.pop()?;
-    let second = prices.pop()?;
-    Some(first - second)
-}
-
 /// Takes the highest price out if it is at least the bound. No price was higher, and none that stays is.
 pub fn highest_from(prices: &mut BinaryHeap<u32>, bound: u32) -> Option<u32>
     ensures above_all { IfSome result (λ price. NoneHigher price prices.old.items) }
@@ -49,7 +39,8 @@ pub fn highest_from(prices: &mut BinaryHeap<u32>, bound: u32) -> Option<u32>
     ensures none { IfNone result (All (λ price. price < bound) prices.old.items) }
     ensures unchanged { IfNone result (prices.new ≡ prices.old) }
 {
-    prices.pop_if(|price| bound <= *price)
+    let price = prices.pop_if(|price| bound <= *price)?;
+    Some(price)
 }
 
 /// Returns the lowest price and the highest, or `None` if there is none.
@@ -87,22 +78,14 @@ pub fn add_all(prices: &mut BinaryHeap<u32>, more: Vec<u32>) -> Result<(), Alloc
 }
 
 /// Takes the prices above a limit out, and returns how many they were.
+#[tactic(auto, using(dary_heap::proofs::Callable::takes_in_turn))]
 pub fn cut(prices: &mut BinaryHeap<u32>, limit: u32) -> usize
     ensures left { IsSameBag (up_to limit prices.old.items) prices.new.items }
     ensures cut { result ≡ count_by (λ price. nat_lt limit price) prices.old.items }
 {
     let before = prices.len();
-    keep_below(prices, limit);
-    before - prices.len()
-}
-
-/// Drops the prices above a limit.
-#[tactic(auto, using(dary_heap::proofs::Callable::takes_in_turn))]
-fn keep_below(prices: &mut BinaryHeap<u32>, limit: u32)
-    ensures left { IsSameBag (up_to limit prices.old.items) prices.new.items }
-    ensures len { length prices.new.items ≤ length prices.old.items }
-{
     prices.retain(|price| *price <= limit);
+    before - prices.len()
 }
 
 /// Moves all prices of one heap into another and returns how many there are then. If it fails, neither changes.
@@ -151,9 +134,11 @@ pub fn add_at(
     place: u32,
     price: u32,
 ) -> Result<(), AllocError>
-    ensures added { OnOk result (IsAddedAt place price places.old places.new) }
+    ensures added { OnOk result
+        (IsSameBag (price ∷ prices_at place places.old) (prices_at place places.new)) }
     ensures unchanged { OnErr result (prices_at place places.new ≡ prices_at place places.old) }
-    ensures elsewhere { IsKeptElsewhere place places.old places.new }
+    ensures elsewhere { (other : ℕ) → other ≢ place
+        → get nat_cmp places.new other ≡ get nat_cmp places.old other }
 {
     let prices = places.entry(place)?.or_default();
     add_price(prices, price)

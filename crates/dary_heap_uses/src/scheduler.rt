@@ -63,7 +63,7 @@ impl<J> Model for Scheduler<J> {
 
 impl<J> Scheduler<J> {
     /// Returns a scheduler without jobs. It allocates no memory.
-    #[tactic(auto, using(crate::proofs::Scheduling::numbered_none))]
+    #[tactic(auto, unfolding(crate::proofs::Common::IsDistinct))]
     pub fn new(alloc: Global) -> Scheduler<J>
         ensures waiting { result.waiting ≡ [] }
         ensures came { result.came ≡ 0 }
@@ -116,13 +116,7 @@ impl<J> Scheduler<J> {
     }
 
     /// Submits a job. If a job of this id waits, the new one takes its place, and the old one is returned. That
-    /// allocates no memory.
-    ///
-    /// # Preconditions
-    ///
-    /// - Fewer than `u64::MAX` jobs were submitted so far.
-    ///
-    /// # Errors
+    /// allocates no memory. Fewer than `u64::MAX` jobs were submitted so far (a precondition).
     ///
     /// Fails with the job if memory allocation fails, or if the id is `usize::MAX`. This happens only if no job of
     /// this id waits, and all room is in use or the id is past the room for ids. The jobs stay as they are.

@@ -40,9 +40,6 @@ pub struct TimerQueue<const D: usize> {
 }
 
 impl<const D: usize> Model for TimerQueue<D> {
-    ghost use Rattle.std.specs.Prelude.{◌≡◌, All, map};
-    ghost use Rattle.dary_heap_uses.specs.Timers.{Timers, named};
-
     ghost Value = { Timers };
 
     ghost view = { λ queue. record {
@@ -131,8 +128,7 @@ impl<const D: usize> TimerQueue<D> {
         ensures uncounted { OnErr result (self.new.comparisons ≡ self.old.comparisons) }
     {
         match self.waiting.insert(name, (moment, name)) {
-            Ok(Some(before)) => Ok(Some(before.0)),
-            Ok(None) => Ok(None),
+            Ok(before) => Ok(before.map(|timer| timer.0)),
             Err(_) => Err(AllocError),
         }
     }
@@ -148,8 +144,7 @@ impl<const D: usize> TimerQueue<D> {
         ensures names { self.new.names ≡ self.old.names }
         ensures unchanged { IfNone result (self.new ≡ self.old) }
     {
-        let (moment, _) = self.waiting.remove(name)?;
-        Some(moment)
+        self.waiting.remove(name).map(|timer| timer.0)
     }
 
     /// Removes the first timer and returns its name and its moment if that has come, and otherwise returns `None`.

@@ -1,5 +1,4 @@
-use Rattle.std.specs.Cmp.{nat_cmp_total}
-use Rattle.dary_heap_uses.proofs.Common.{overwritten}
+use Rattle.dary_heap_uses.proofs.{nat_cmp_total, overwritten}
 use Rattle.dary_heap_uses.proofs.calling.change.Goals as goal
 
 pub returns-clause-ordered : goal.returns-clause-ordered

@@ -1,4 +1,4 @@
-use Rattle.dary_heap_uses.proofs.Common.{◌≡◌, false, length, sum_by, loaned, is_written, lender}
+use Rattle.dary_heap_uses.proofs.{false, is_written, lender, length, loaned, sum_by, ◌≡◌}
 use Rattle.dary_heap_uses.proofs.calling.lower.Given as goal
 
 abbrev pub invariant-loop-greatest : goal.invariant-loop-greatest

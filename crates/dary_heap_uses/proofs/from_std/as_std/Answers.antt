@@ -1,4 +1,4 @@
-use Rattle.dary_heap_uses.proofs.Common.{std_heap_from_ordered}
+use Rattle.dary_heap_uses.proofs.{std_heap_from_ordered}
 use Rattle.dary_heap_uses.proofs.from_std.as_std.Goals as goal
 
 pub returns-clause-heap : goal.returns-clause-heap

@@ -1,4 +1,4 @@
-use Rattle.dary_heap_uses.proofs.Common.{◌+◌, ◌≤◌, length, vec_len, vec_capacity, nat_cmp, IsGivenDescending}
+use Rattle.dary_heap_uses.proofs.{IsGivenDescending, length, nat_cmp, vec_capacity, vec_len, ◌+◌, ◌≤◌}
 use Rattle.dary_heap_uses.proofs.from_std.falling.Given as goal
 
 -- what came out so far, and room for the rest

@@ -1,4 +1,4 @@
-use Rattle.dary_heap_uses.proofs.Common.{arith, ordered_from_std_heap}
+use Rattle.dary_heap_uses.proofs.{arith, ordered_from_std_heap}
 use Rattle.dary_heap_uses.proofs.from_std.moved.Goals as goal
 
 pub from_raw_vec-requires : goal.from_raw_vec-requires

@@ -1,4 +1,4 @@
-use Rattle.dary_heap_uses.proofs.Common.{◌∙◌, take_pops}
+use Rattle.dary_heap_uses.proofs.{take_pops, ◌∙◌}
 use Rattle.dary_heap_uses.proofs.greatest.first_few.Goals as goal
 
 pub returns : goal.returns

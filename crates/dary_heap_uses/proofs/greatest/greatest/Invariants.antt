@@ -1,4 +1,4 @@
-use Rattle.dary_heap_uses.proofs.Common.{◌+◌, ◌*◌, ◌≤◌, length, push_bound, pop_bound, KeepsGreatest, values}
+use Rattle.dary_heap_uses.proofs.{KeepsGreatest, length, pop_bound, push_bound, values, ◌*◌, ◌+◌, ◌≤◌}
 use Rattle.dary_heap_uses.proofs.greatest.greatest.Given as goal
 
 abbrev pub invariant-loop-item : goal.invariant-loop-item

@@ -1,5 +1,4 @@
-use Rattle.dary_heap_uses.proofs.Common.{◌≤◌, take, IsMade}
-use Rattle.std.specs.List.{FoldsTo}
+use Rattle.dary_heap_uses.proofs.{FoldsTo, IsMade, take, ◌≤◌}
 use Rattle.dary_heap_uses.proofs.simulation.make_all.Given as goal
 
 -- the changes so far were made, and there is as much room or more

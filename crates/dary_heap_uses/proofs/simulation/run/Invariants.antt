@@ -1,5 +1,4 @@
-use Rattle.dary_heap_uses.proofs.Common.{◌≤◌}
-use Rattle.dary_heap_uses.proofs.Running.{IsRunning}
+use Rattle.dary_heap_uses.proofs.{IsRunning, ◌≤◌}
 use Rattle.dary_heap_uses.proofs.simulation.run.Given as goal
 
 -- so many steps led here, and there is as much room or more

@@ -1,5 +1,4 @@
-use Rattle.dary_heap_uses.proofs.Common.{[], ◌∷◌}
-use Rattle.dary_heap_uses.proofs.Scheduling.{first_left, numbered_left}
+use Rattle.dary_heap_uses.proofs.{[], first_left, numbered_left, ◌∷◌}
 use Rattle.dary_heap_uses.proofs.scheduler.Scheduler.next.Goals as goal
 
 pub invariant_of-self-2 : goal.invariant_of-self-2

@@ -1,5 +1,4 @@
-use Rattle.dary_heap_uses.proofs.Scheduling.{numbered_left, numbered_more}
-use Rattle.indexed_heap.specs.Entries.{entries_of}
+use Rattle.dary_heap_uses.proofs.{entries_of, numbered_left, numbered_more}
 use Rattle.dary_heap_uses.proofs.scheduler.Scheduler.submit.Goals as goal
 
 pub invariant_of-self : goal.invariant_of-self

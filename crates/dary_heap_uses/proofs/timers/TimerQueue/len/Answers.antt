@@ -1,4 +1,4 @@
-use Rattle.indexed_heap.proofs.Callers.{AreDistinct-map}
+use Rattle.dary_heap_uses.proofs.{AreDistinct-map}
 use Rattle.dary_heap_uses.proofs.timers.TimerQueue.len.Goals as goal
 
 pub returns-clause-once : goal.returns-clause-once

@@ -1,6 +1,4 @@
-use Rattle.dary_heap_uses.proofs.Common.{◌∙◌, ap, sym}
-use Rattle.indexed_heap.proofs.Callers.{item_of-map}
-use Rattle.std.specs.Option.{option_map}
+use Rattle.dary_heap_uses.proofs.{ap, item_of-map, option_map, sym, ◌∙◌}
 use Rattle.dary_heap_uses.proofs.timers.TimerQueue.moment_of.Goals as goal
 
 pub returns-in_err-timer : goal.returns-in_err-timer

@@ -1,5 +1,4 @@
-use Rattle.dary_heap_uses.proofs.Common.{arith, ◌∙◌, length_permutation}
-use Rattle.dary_heap_uses.proofs.Taking.{IsTaking-more, pops_more}
+use Rattle.dary_heap_uses.proofs.{IsTaking-more, arith, length_permutation, pops_more, ◌∙◌}
 use Rattle.dary_heap_uses.proofs.timers.TimerQueue.take_due.Goals as goal
 
 pub loop-timer-smaller : goal.loop-timer-smaller
@@ -19,5 +18,4 @@ loop-timer-preserved g c =
 
 pub returns-clause-counted : goal.returns-clause-counted
 returns-clause-counted g c =
-    let ended = c.loop-timer.invariant in
-    rw (c.in_default.ensures.unchanged) record { rises = ended.rises; within = omega (arith, ended.within) }
+    rw c.in_default.ensures.unchanged record { rises = c.loop-timer.invariant.rises; within = omega (arith, c.loop-timer.invariant.within) }

@@ -1,5 +1,4 @@
-use Rattle.dary_heap_uses.proofs.Common.{◌≡◌, ◌+◌, ◌≤◌, length, vec_len, vec_capacity, pops_bound}
-use Rattle.dary_heap_uses.proofs.Taking.{IsTaking}
+use Rattle.dary_heap_uses.proofs.{IsTaking, length, pops_bound, vec_capacity, vec_len, ◌+◌, ◌≡◌, ◌≤◌}
 use Rattle.dary_heap_uses.proofs.timers.TimerQueue.take_due.Given as goal
 
 -- what was taken so far, room for the others, and what the pops cost

@@ -1,10 +1,11 @@
-use Rattle.dary_heap_uses.proofs.Common.{All-permutation, All-tail, IsPermutation-map, named}
-use Rattle.dary_heap_uses.proofs.Taking.{HasItsName, first_of, none_due}
+use Rattle.dary_heap_uses.proofs.{All-permutation, All-tail, All-weaker, HasItsName, IsBefore, IsPermutation-map, arith, before_up, first_of, named, ◌<◌}
 use Rattle.dary_heap_uses.proofs.timers.TimerQueue.take_next.Goals as goal
 
+-- if the first timer is for a later moment, so is each
 pub returns-then-now-moment-clause-none_due : goal.returns-then-now-moment-clause-none_due
 returns-then-now-moment-clause-none_due g c =
-    rw (← c.self.view_is) (none_due c.args.now _ _ (first_of c.self.inside.waiting.entries _ c.self.invariant c.in_ok-moment.ensures.greatest) c.if-now-moment.true)
+    let first = first_of c.self.inside.waiting.entries _ c.self.invariant c.in_ok-moment.ensures.greatest in
+    rw (← c.self.view_is) (All-weaker (IsBefore _) (λ other. c.args.now < other.1) (λ other before. omega (arith, before_up _ other before, c.if-now-moment.true)) _ first.before)
 
 pub invariant_of-self-2 : goal.invariant_of-self-2
 invariant_of-self-2 g c = All-tail HasItsName _ _ (All-permutation HasItsName _ _ c.in_ok-name.ensures.bag c.self.invariant)
