@@ -1,5 +1,5 @@
 -- Turns of jobs that wait, and which job comes before the others.
-use Rattle.dary_heap_uses.proofs.Common.{All, All-cons, All-contains, All-contains_itself, All-permutation, All-tail, All-weaker, ComesBefore, Contains, IsDistinct, IsDistinct-IsPermutation}
+use Rattle.dary_heap_uses.proofs.Common.{All, All-cons, All-contains, All-contains_itself, All-permutation, All-tail, All-weaker, ComesBefore, Contains, IsDistinct-IsPermutation}
 use Rattle.dary_heap_uses.proofs.Common.{IsDistinct-cons, IsDistinct-tail, IsGreatest, IsNumbered, IsPermutation-map, IsPermutation-refl, IsPermutation-sym, IsSameBag, List, Waiting, [], arith}
 use Rattle.dary_heap_uses.proofs.Common.{by_item, came_later, false, inl, inr, map, nat_cmp, nat_eq, nat_eq_equiv, ne_eqb, none_left, not_from_Decides, ordering_then, recursion_from_All, sym, turn_of}
 use Rattle.dary_heap_uses.proofs.Common.{unsigned_Decides, ℕ, ◌++◌, ◌+◌, ◌<◌, ◌∷◌, ◌≡◌}

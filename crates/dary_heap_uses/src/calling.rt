@@ -39,6 +39,17 @@ pub fn take_from(heap: &mut TernaryHeap<u32>, bound: u32) -> Option<u32>
 ///
 /// A lesser item takes the place of the greatest through a loan: one way down, where a push and a pop take
 /// a way up and a way down.
+///
+/// # Examples
+///
+/// ```
+/// use dary_heap::DaryHeap;
+/// use dary_heap_uses::calling::push_pop;
+/// let mut heap = DaryHeap::<_, 3>::from(vec![in alloc; 3, 8, 1]?);
+/// assert_eq!(rt; push_pop(&mut heap, 5), 8);
+/// assert_eq!(rt; push_pop(&mut heap, 9), 9);
+/// assert_eq!(rt; heap.as_slice(), [5, 3, 1].as_slice());
+/// ```
 pub fn push_pop<T: Ord + Drop, const D: usize>(heap: &mut DaryHeap<T, D>, item: T) -> T
     ensures bag { IsSameBag (item ∷ heap.old.items) (result ∷ heap.new.items) }
     ensures greatest { IsGreatest T.cmp (item ∷ heap.old.items) result }
@@ -84,6 +95,15 @@ pub fn greatest_two<const D: usize>(heap: &mut DaryHeap<u32, D>) -> Option<(u32,
 
 /// Puts another number at a place, below the length, of a slice that is heap ordered at arity 4, and leaves
 /// it so.
+///
+/// # Examples
+///
+/// ```
+/// use dary_heap_uses::calling::change;
+/// let mut items = [9, 5, 7, 1, 2];
+/// change(&mut items, 3, 10);
+/// assert_eq!(rt; items, [10, 5, 7, 9, 2]);
+/// ```
 pub fn change(items: &mut [u64], place: usize, item: u64)
     requires heap { IsHeapOrdered nat_cmp 4 items.old }
     requires there { place < length items.old }

@@ -19,6 +19,17 @@ use std::cmp::Reverse;
 /// No item that is left out is strictly greater than one that is kept. Of equal items any may stay. For
 /// each item it makes at most one comparison with the least that is kept, and in the heap at most as many
 /// as a push onto `k` items and a pop from `k` take.
+///
+/// # Examples
+///
+/// ```
+/// use dary_heap::DaryHeap;
+/// use dary_heap_uses::greatest::greatest;
+/// use std::cmp::Reverse;
+/// let mut kept: DaryHeap<_, 4> = greatest(alloc, [3, 8, 1, 5], 2)?;
+/// assert_eq!(rt; kept.pop(), Some(Reverse(5)));
+/// assert_eq!(rt; kept.pop(), Some(Reverse(8)));
+/// ```
 pub fn greatest<T: Ord + Drop, I: IntoIterator<Item = T>, const D: usize>(
     alloc: Global,
     stream: I,
@@ -40,6 +51,15 @@ pub fn greatest<T: Ord + Drop, I: IntoIterator<Item = T>, const D: usize>(
 
 /// Returns the `k` greatest items of a heap in descending order, or all if they are fewer. Of equal items
 /// any may be left out. Fails if memory allocation fails, and drops all items then.
+///
+/// # Examples
+///
+/// ```
+/// use dary_heap::DaryHeap;
+/// use dary_heap_uses::greatest::first_few;
+/// let heap = DaryHeap::<_, 3>::from(vec![in alloc; 3, 8, 1, 5]?);
+/// assert_eq!(rt; first_few(alloc, heap, 2)?.as_slice(), [8, 5].as_slice());
+/// ```
 pub fn first_few<T: Ord + Drop, const D: usize>(
     alloc: Global,
     heap: DaryHeap<T, D>,

@@ -46,7 +46,36 @@ pub struct Stopped {
 /// Fails if a change can't be made, since memory allocation fails or its name is `usize::MAX`. This happens only if at
 /// least as many events wait then as there was room for at the start, or if there was no room for the name.
 ///
-/// `crates/dary_heap_tests/src/uses.rt` has a handler: two balls that bounce.
+/// # Examples
+///
+/// ```
+/// use dary_heap_uses::simulation::{Change, Handler, run};
+/// use dary_heap_uses::timers::TimerQueue;
+/// use std::alloc::Global;
+///
+/// /// Event 1 revokes event 9, and each other event schedules event 1 for 5 moments later.
+/// #[derive(Drop)]
+/// struct Watch(Global);
+///
+/// impl Handler for Watch {
+///     ghost handles = { λ before event changes after. Unit {0} };
+///
+///     fn handle(&mut self, name: usize, moment: u64) -> Vec<Change> {
+///         let mut changes = Vec::new(self.0);
+///         let _ = changes.push(match name {
+///             1 => Change::Revoke(9),
+///             _ => Change::Schedule(1, moment.saturating_add(5)),
+///         });
+///         changes
+///     }
+/// }
+///
+/// let mut events = TimerQueue::<4>::new(alloc);
+/// events.set(2, 3)?;
+/// events.set(9, 30)?;
+/// assert!(rt; run(&mut events, &mut Watch(alloc), 100, 10).is_ok_and(|count| count == 2));
+/// assert_eq!(rt; events.len(), 0);
+/// ```
 pub fn run<const D: usize, H: Handler>(
     events: &mut TimerQueue<D>,
     handler: &mut H,
