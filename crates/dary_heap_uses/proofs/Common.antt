@@ -23,7 +23,7 @@ pub use Rattle.dary_heap_uses.specs.declared.merge.Head.{Head}
 pub use Rattle.dary_heap_uses.specs.declared.scheduler.Waiting.{Waiting}
 pub use Rattle.dary_heap_uses.specs.declared.simulation.Change.{Change}
 pub use Rattle.dary_heap_uses.specs.declared.simulation.Change.TheVariants.{Revoke, Schedule}
-pub use Rattle.std.proofs.Common.{OnErr, leb, ltb}
+pub use Rattle.std.proofs.Common.{MatchOption, OnErr, leb, ltb, not, option_map}
 pub use Rattle.std.proofs.lemmas.Bool.Decides.{not_from_Decides}
 pub use Rattle.std.proofs.lemmas.Fn.{FoldsTo-push, filter_same}
 pub use Rattle.std.proofs.lemmas.Iterator.Adapters.{YieldsList-from_vec, at_most_from_yields_List, fact_from_extend}
@@ -39,8 +39,6 @@ pub use Rattle.std.proofs.lemmas.Result.{on_err_weaker}
 pub use Rattle.std.specs.Cmp.{IsStrictWeakOrder, nat_cmp_total}
 pub use Rattle.std.specs.List.{AllPairs, FoldsTo, filter}
 pub use Rattle.std.specs.List.Sorted.{IsSorted, IsSortedBy, IsStableBy, ties}
-pub use Rattle.std.specs.Option.{MatchOption, option_map}
 pub use Rattle.std.specs.Ordering.{flip_args}
-pub use Rattle.std.specs.Prelude.{not}
 unfoldable pub use Rattle.std.specs.List.{IsDistinct}
 pub use native.Mathlib.Numerals.{unary_clauses}
