@@ -4,7 +4,7 @@ use Rattle.dary_heap.proofs.Common.{cases_eq, cases_lt, IsPermutation, IsPermuta
 use Rattle.dary_heap.proofs.Common.{IsDistinct-IsPermutation, nat_eq, nat_eq_equiv, ne_eqb, eqb-false, Ordering, IsHeapOrdered, IsHeapOrderedButAt, length-append, length-map}
 use Rattle.dary_heap.proofs.Common.{length-set, length_permutation, get_or-set_same, get_or_from_slice_get, slice_get-get_or, slice_get_within}
 use Rattle.dary_heap.proofs.Depth.{parent-below}
-use Rattle.dary_heap.proofs.Order.{Exchanges, exchanges, read, slice_get-set_other, slice_get-append, slice_get-push}
+use Rattle.dary_heap.proofs.Order.{Exchanges, exchanges, read, slice_get-set_other, slice_get-set_same, slice_get-append, slice_get-push}
 use Rattle.dary_heap.proofs.Path.{GoesUpBy-above, above-le, next_on_path, on_path_or_still}
 use Rattle.dary_heap.proofs.sift.Parts.{whole}
 use Rattle.dary_heap.proofs.sift.Sorting.{moved_last}
@@ -21,10 +21,6 @@ use Rattle.dary_heap_c.specs.Places.{AreRight, AreRightOffPath, HaveKeys, IsFree
 -- what would be read past the end
 abbrev pub zero_entry : Entry
 zero_entry = record { key = pos 0; value = 0 }
-
--- a place that was written
-slice_get-set_same : {X : Type 0} (xs : List X) (at : ℕ) (x : X) → at < length xs → slice_get (set xs at x) at ≡ Some x
-slice_get-set_same xs at x inside = slice_get-get_or (set xs at x) at x (omega (arith, length-set xs at x)) ∙ ap Some (get_or-set_same xs at x x inside)
 
 -- the place of the item at the first place of a path is written, and the rest of the path is left
 module _ (D : ℕ) (xs : List Entry) (places : List ℕ) (at high : ℕ) (x : Entry) (there : slice_get xs at ≡ Some x) where

@@ -2,15 +2,11 @@
 use Rattle.dary_heap.proofs.Common.{◌≡◌, ◌≢◌, ℕ, ◌<◌, ◌≤◌, Bool, true, false, if◌then◌else◌, List, [], length, nil_from_length, get_or, set, sym, ap, ◌∙◌, subst, arith, inl, inr, Some, slice_get}
 use Rattle.dary_heap.proofs.Common.{◌⊎◌, zero, suc, refl, parent, swap, cases_eq, cases_lt, get_or-set_same, length-set, slice_get-get_or, slice_get_within}
 use Rattle.dary_heap.proofs.Depth.{parent-below}
-use Rattle.dary_heap.proofs.Order.{Exchanges, exchanges, read, reads, slice_get-set_other}
+use Rattle.dary_heap.proofs.Order.{Exchanges, exchanges, read, reads, slice_get-set_other, slice_get-set_same}
 use Rattle.dary_heap.proofs.Path.{GoesUpBy-above, lone_on_path, next_on_path, on_path_or_still}
 use Rattle.dary_heap.specs.Path.{GoesUp, GoesUpBy, IsOnPath}
 use Rattle.indexed_heap.specs.Entries.{IsAbsent, IsEntry}
 use Rattle.indexed_heap.specs.Places.{AreRight, AreRightButAt, AreRightOffPath}
-
--- a place that was written
-pub slice_get-set_same : {X : Type 0} (xs : List X) (at : ℕ) (x : X) → at < length xs → slice_get (set xs at x) at ≡ Some x
-slice_get-set_same xs at x inside = slice_get-get_or (set xs at x) at x (omega (arith, length-set xs at x)) ∙ ap Some (get_or-set_same xs at x x inside)
 
 module _ {X : Type 0} {slots : List (ℕ × X)} {places : List ℕ} (h : AreRight slots places) where
   -- the table has a place for the key of each slot

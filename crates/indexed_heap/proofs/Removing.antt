@@ -1,8 +1,8 @@
 -- A slot that is added behind the others, and one that is taken out, whose place the last slot takes.
 use Rattle.dary_heap.proofs.Common.{◌≡◌, ◌≢◌, ℕ, ◌+◌, ◌-◌, ◌<◌, ◌≤◌, List, [], ◌∷◌, ◌++◌, length, get_or, set, refl, sym, ap, ◌∙◌, subst, arith, inl, inr, Some, slice_get, cases_eq, cases_lt}
-use Rattle.dary_heap.proofs.Common.{length-append, slice_get-get_or, slice_get_within, IsTotalOrder, Ordering, IsHeapOrdered, IsHeapOrderedBelowRoot, IsHeapOrderedButAt, HasGreaterChild, IsPermutation, IsPermutation-sym, Contains}
-use Rattle.dary_heap.proofs.Common.{Contains-permutation, get_or_from_slice_get}
-use Rattle.dary_heap.proofs.Order.{below_root, read, reads, slice_get-append, slice_get-set_other}
+use Rattle.dary_heap.proofs.Common.{length-append, slice_get-get_or, slice_get_within, IsTotalOrder, Ordering, IsHeapOrdered, IsHeapOrderedBelowRoot, IsHeapOrderedButAt}
+use Rattle.dary_heap.proofs.Common.{HasGreaterChild, IsPermutation, IsPermutation-sym, Contains, Contains-permutation, get_or_from_slice_get}
+use Rattle.dary_heap.proofs.Order.{below_root, read, reads, slice_get-append, slice_get-set_other, slice_get-set_same}
 use Rattle.dary_heap.proofs.Callers.{ordered_but_at}
 use Rattle.dary_heap.proofs.sift.Cost.{first_later}
 use Rattle.dary_heap.proofs.sift.Parts.{replaced, still_but_at, whole, within}
@@ -10,7 +10,7 @@ use Rattle.dary_heap.proofs.sift.Sifting.{childless}
 use Rattle.std.proofs.lemmas.List.{get_or_push}
 use Rattle.indexed_heap.specs.Entries.{IsAbsent}
 use Rattle.indexed_heap.specs.Places.{AreRight, AreRightButAt}
-use Rattle.indexed_heap.proofs.Placing.{distinct, has_place, slice_get-set_same}
+use Rattle.indexed_heap.proofs.Placing.{distinct, has_place}
 
 -- a slot for a key that has none comes behind the others
 added : {X : Type 0} (slots : List (ℕ × X)) (places : List ℕ) (new : ℕ × X) → AreRight slots places → IsAbsent new.0 slots → new.0 < length places →

@@ -7,7 +7,8 @@ pub returns-clause-path : goal.returns-clause-path
 returns-clause-path g c =
     let sifted = c.sift_down_to_bottom.ensures in
     let down = GoesDownBy-back g.J.Judge.order g.row.D sifted.down.0 0 sifted.bottom c.args.items.now sifted.items_then c.requires sifted.down.1 in
-    rejoins g.row.D down.levels sifted.up.1.path.levels sifted.bottom c.sift_down_to_bottom.result 0 c.args.items.now sifted.items_then c.sift_down_to_bottom.new.items refl down.way sifted.up.1.path.way
+    rejoins g.row.D down.levels sifted.up.1.path.levels sifted.bottom c.sift_down_to_bottom.result 0 c.args.items.now sifted.items_then c.sift_down_to_bottom.new.items refl
+    down.way sifted.up.1.path.way
 
 pub returns-clause-ordered : goal.returns-clause-ordered
 returns-clause-ordered g c = λ h.
