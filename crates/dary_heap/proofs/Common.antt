@@ -11,6 +11,7 @@ pub use Rattle.std.proofs.Math.Nat.{div-le_self, div-mul-le_self, lt-div-mul-add
 pub use Rattle.std.proofs.iter.Next.{Gave-then, Ran, Yields-more, again, begun, drained, if_no, if_yes, less, said}
 pub use Rattle.std.proofs.lemmas.Bool.{cases_eq, cases_lt, ne_eqb, true≢false}
 pub use Rattle.std.proofs.lemmas.Bool.Decides.{nat_tests}
+pub use Rattle.std.proofs.lemmas.Grind.{common_steps}
 pub use Rattle.std.proofs.lemmas.List.{get_or-replicate, get_or_default, get_or_past, length-map, length-replicate, length-take-le, map-append, map-id, nil_from_length, take-append-drop}
 pub use Rattle.std.proofs.lemmas.List.{take-set-le, take_all, take_more}
 pub use Rattle.std.proofs.lemmas.List.Edits.{length-swap, swap_is}

@@ -1,13 +1,11 @@
 -- Without ties, questions and refusals, two runs from the same bag give the same replies and leave the same bag: their states are the same ones, and so both may be read from the first.
-use Rattle.dary_heap.proofs.Common.{◌≡◌, ◌≢◌, ℕ, zero, suc, Bool, true, false, List, [], ◌∷◌, ◌++◌, refl, sym, ap, ◌∙◌, subst, arith, Option, Some, None, AllByRecursion, IsTotalOrder, Ordering}
-use Rattle.dary_heap.proofs.Common.{Equal, Greater, Contains-append_left, Contains-append_right, IsPermutation-refl, IsPermutation-sym, IsPermutation-trans, IsPermutation-cons, length_permutation}
-use Rattle.dary_heap.proofs.Common.{items_in, written, IsSameBag, IsGreatest, IsGreatest-same_bag, Act, Write, Refresh, End, PutBack, TakeOut, Seen, Old, Changed, Command, Reply, Push, Pop, Len}
-use Rattle.dary_heap.proofs.Common.{Extend, Append, Reserve, Shrink, Clear, DrainSorted, Loan, Pushed, Popped, Size, Done, Taken, Loaned, Acts, Ends, Pops, PopsInTurn, Step, Steps, last_state}
-use Rattle.dary_heap.proofs.Common.{IsState, IsSameState, front}
+use Rattle.dary_heap.proofs.{◌≡◌, ◌≢◌, ℕ, zero, suc, Bool, true, false, List, [], ◌∷◌, ◌++◌, refl, sym, ap, ◌∙◌, subst, arith, Option, Some, None, AllByRecursion, IsTotalOrder, Ordering, Equal}
+use Rattle.dary_heap.proofs.{Greater, Contains-append_left, Contains-append_right, IsPermutation-refl, IsPermutation-sym, IsPermutation-trans, IsPermutation-cons, length_permutation, items_in}
+use Rattle.dary_heap.proofs.{written, IsSameBag, IsGreatest, IsGreatest-same_bag, Act, Write, Refresh, End, PutBack, TakeOut, Seen, Old, Changed, Command, Reply, Push, Pop, Len, Extend, Append}
+use Rattle.dary_heap.proofs.{Reserve, Shrink, Clear, DrainSorted, Loan, Pushed, Popped, Size, Done, Taken, Loaned, Acts, Ends, Pops, PopsInTurn, Step, Steps, last_state, IsState, IsSameState, front}
+use Rattle.dary_heap.proofs.{holds_none, Contains-first, IsAmong, IsAmong-cons, IsAmong-tail, IsAmong-append, IsAmong-same, same_state}
 use Rattle.dary_heap.specs.TwoArities.{HasNoTies, IsSettled, IsUnrefused, SameRepliesAtTwoArities}
-use Rattle.dary_heap.proofs.Bags.{holds_none, Contains-first, IsAmong, IsAmong-cons, IsAmong-tail, IsAmong-append, IsAmong-same}
 use Rattle.dary_heap.proofs.Cancelling.{IsPermutation-uncons}
-use Rattle.dary_heap.proofs.Fronts.{same_state}
 use Rattle.dary_heap.proofs.run.SameStates.{Step-same_state, in_turn, IsSameState-sym, Step-state}
 use Rattle.dary_heap.proofs.run.ServingLoan.{Acts-among, Acts-from}
 

@@ -1,12 +1,10 @@
 -- Each step of the machine leads from a state to a state, of which it reads no more than the bag and the front: the order of the list behind the first item is free.
-use Rattle.dary_heap.proofs.Common.{◌≡◌, ◌≢◌, Bool, List, [], ◌∷◌, refl, sym, ap, ◌∙◌, subst, rules, inl, inr, Option, Some, None, if◌then◌else◌, IsTotalOrder, is_gt, ordering_reverse, Ordering}
-use Rattle.dary_heap.proofs.Common.{Greater, Contains-permutation, IsSameBag, IsGreatest, IsGreatest-same_bag, End, PutBack, TakeOut, Command, Reply, Push, PopIf, Loan, Pushed, Popped, Loaned, Ends}
-use Rattle.dary_heap.proofs.Common.{Step, IsState, IsSameState, front, front_with, ℕ, zero, suc, false, length, arith, nil_from_length, IsPermutation-sym, IsPermutation-trans, IsPermutation-cons}
-use Rattle.dary_heap.proofs.Common.{IsPermutation-append_left, length_permutation, Retain, Extend, Drain, Done, ExtendRefused, Taken, Pops, PopsInTurn, IsJoined}
+use Rattle.dary_heap.proofs.{◌≡◌, ◌≢◌, Bool, List, [], ◌∷◌, refl, sym, ap, ◌∙◌, subst, rules, inl, inr, Option, Some, None, if◌then◌else◌, IsTotalOrder, is_gt, ordering_reverse, Ordering, Greater}
+use Rattle.dary_heap.proofs.{Contains-permutation, IsSameBag, IsGreatest, IsGreatest-same_bag, End, PutBack, TakeOut, Command, Reply, Push, PopIf, Loan, Pushed, Popped, Loaned, Ends, Step, IsState}
+use Rattle.dary_heap.proofs.{IsSameState, front, front_with, ℕ, zero, suc, false, length, arith, nil_from_length, IsPermutation-sym, IsPermutation-trans, IsPermutation-cons, IsPermutation-append_left}
+use Rattle.dary_heap.proofs.{length_permutation, Retain, Extend, Drain, Done, ExtendRefused, Taken, Pops, PopsInTurn, IsJoined, Contains-first, IsGreatest-overtaken, IsGreatest-stays, alone}
+use Rattle.dary_heap.proofs.{not_greater-self}
 use Rattle.dary_heap.specs.Bag.{HasGreater}
-use Rattle.dary_heap.proofs.Bags.{Contains-first, IsGreatest-overtaken, IsGreatest-stays}
-use Rattle.dary_heap.proofs.Fronts.{alone}
-use Rattle.dary_heap.proofs.Order.{not_greater-self}
 use Rattle.dary_heap.specs.Machine.{MayAnswer}
 
 -- a strictly greater value in one listing of a bag is one in every other
@@ -43,7 +41,7 @@ module _ {X P : Type 0} {cmp : X → X → Ordering} (calls : P → X → Bool �
   Step-state old (Push x) Pushed new h step = IsState-front new (front_with cmp x (front old)) step.1 (IsGreatest-same_bag (x ∷ old) new _ step.0 (front_with-greatest total old x h))
   Step-state old (PopIf p) (Popped None) new h step = elim step [ inl none ↦ IsState-empty new none.1 | inr told ↦ IsState-same old new h told.1 ]
   Step-state old (Loan acts end) (Loaned (Some told)) new h step = Ends-state step.2 step.3 end told.1 new step.7
-  Step-state old command reply new h step = search (rules, IsState-same old new h, IsState-empty {cmp = cmp} new)
+  Step-state old command reply new h step = first_of (search, search (rules, IsState-same old new h, IsState-empty {cmp = cmp} new))
 
 module _ {X : Type 0} where
   pub IsSameState-sym : (xs ys : List X) → IsSameState xs ys → IsSameState ys xs
@@ -101,4 +99,5 @@ module _ {X P : Type 0} (cmp : X → X → Ordering) (calls : P → X → Bool �
   Step-same_state (Extend xs) ExtendRefused h = (h.0, h.1, h.2, h.3, joined h.0 h.4)
   Step-same_state (Drain k) (Taken taken) h = ((h.0.0, IsSameState-trans old' old h.0.0 (IsSameState-sym old old' from) h.0.1, h.0.2), none new new' to h.1)
   Step-same_state (Loan acts end) (Loaned (Some told)) h = (h.0, h.1, h.2, h.3, from.first ∙ h.4, listed _ h.5, h.6, ended h.2 h.3 end told.1 h.7)
-  Step-same_state command reply h = search (rules, kept, joined, popped, in_turn, asked, none old old' from, none new new' to, some old old' from, length_permutation old old' from.bag)
+  Step-same_state command reply h =
+      first_of (search, search (rules, kept, joined, popped, in_turn, asked, none old old' from, none new new' to, some old old' from, length_permutation old old' from.bag))

@@ -1,14 +1,11 @@
 -- What one command makes of a heap, from the contract of the call that carries it out.
-use Rattle.dary_heap.proofs.Common.{◌≡◌, ℕ, ◌≤◌, ◌↔◌, Bool, List, [], ◌∷◌, ◌++◌, length, IsPermutation, Contains, refl, subst, arith, Option, Some, None, IfSome, IfNone, slice_get, sym, inl, inr}
-use Rattle.dary_heap.proofs.Common.{true, false, IsTotalOrder, Mut, Called, CalledAt, TakesAt, Contains-append_left, slice_get_within, get_or_from_slice_get, length_permutation, Ordering}
-use Rattle.dary_heap.proofs.Common.{IsCallableOn, RisesWithin, pop_bound, charge, Contents, IsHeapOrdered, Command, Reply, Pop, Ask, Popped, Asked, Step, IsServed, Serves, room, sure_after, front}
-use Rattle.dary_heap.proofs.Common.{suc, ◌-◌, if◌then◌else◌, min, ap, ◌∙◌, length-append, append-nil, mul-le-mul_right, Contains-append_right, IsPermutation-sym, Contains-permutation, Bor}
-use Rattle.dary_heap.proofs.Common.{items_where_true, IsSameBag, IsGreatest, mend_bound, IsExtended, first_no, depth, PopIf, Retain, Extend, Append, Done, IsJoined, nat_tests, ◌≢◌, le_refl, zero-le}
-use Rattle.dary_heap.proofs.Common.{true≢false, IsSameState}
-use Rattle.dary_heap.proofs.Bags.{IsAmong, IsAmong-same, IsAmong-tail, front_cases, holds_none, IsAmong-append}
-use Rattle.dary_heap.proofs.Fronts.{alone, ordered_state, same_state}
+use Rattle.dary_heap.proofs.{◌≡◌, ℕ, ◌≤◌, ◌↔◌, Bool, List, [], ◌∷◌, ◌++◌, length, IsPermutation, Contains, refl, subst, arith, Option, Some, None, IfSome, IfNone, slice_get, sym, inl, inr, true}
+use Rattle.dary_heap.proofs.{false, IsTotalOrder, Mut, Called, CalledAt, TakesAt, Contains-append_left, slice_get_within, get_or_from_slice_get, length_permutation, Ordering, IsCallableOn}
+use Rattle.dary_heap.proofs.{RisesWithin, pop_bound, charge, Contents, IsHeapOrdered, Command, Reply, Pop, Ask, Popped, Asked, Step, IsServed, Serves, room, sure_after, front, suc, ◌-◌, if◌then◌else◌}
+use Rattle.dary_heap.proofs.{min, ap, ◌∙◌, length-append, append-nil, mul-le-mul_right, Contains-append_right, IsPermutation-sym, Contains-permutation, Bor, items_where_true, IsSameBag, IsGreatest}
+use Rattle.dary_heap.proofs.{mend_bound, IsExtended, first_no, depth, PopIf, Retain, Extend, Append, Done, IsJoined, nat_tests, ◌≢◌, le_refl, zero-le, true≢false, IsSameState, IsAmong, IsAmong-same}
+use Rattle.dary_heap.proofs.{IsAmong-tail, front_cases, holds_none, IsAmong-append, alone, ordered_state, same_state, none_ordered, read}
 use Rattle.dary_heap.proofs.Popping.{none_first}
-use Rattle.dary_heap.proofs.Order.{none_ordered, read}
 use Rattle.std.proofs.lemmas.Grind.{get_or_picked}
 use Rattle.dary_heap.specs.Filtering.{IsRetained}
 use Rattle.dary_heap.proofs.heap.Filtering.{few_picked}

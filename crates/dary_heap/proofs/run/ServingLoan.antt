@@ -1,12 +1,10 @@
 -- What a loan makes of a heap, from the contracts of its calls.
-use Rattle.dary_heap.proofs.Common.{◌≡◌, ◌↔◌, ℕ, ◌+◌, ◌-◌, ◌*◌, ◌<◌, ◌≤◌, Bool, true, false, List, [], ◌∷◌, ◌++◌, length, refl, sym, ap, ◌∙◌, subst, arith, Option, Some, None, IsTrue, slice_set}
-use Rattle.dary_heap.proofs.Common.{Contains, Contains-append_left, Contains-append_right, IsPermutation-refl, IsPermutation-sym, IsPermutation-trans, IsPermutation-cons, length_permutation}
-use Rattle.dary_heap.proofs.Common.{OnFalse, IsTotalOrder, Ordering, written, IsSameBag, IsGreatest-same_bag, RisesWithin, refreshes, pop_bound, sink_bound, Contents, IsHeapOrdered, IsExceeded, Act}
-use Rattle.dary_heap.proofs.Common.{Write, Refresh, End, PutBack, TakeOut, Seen, Old, Changed, Loan, Loaned, Acts, Ends, Serves, IsState, front, length-set, zero-le}
-use Rattle.dary_heap.proofs.Bags.{Contains-first, IsAmong, IsAmong-cons, IsAmong-tail, IsAmong-same}
+use Rattle.dary_heap.proofs.{◌≡◌, ◌↔◌, ℕ, ◌+◌, ◌-◌, ◌*◌, ◌<◌, ◌≤◌, Bool, true, false, List, [], ◌∷◌, ◌++◌, length, refl, sym, ap, ◌∙◌, subst, arith, Option, Some, None, IsTrue, slice_set, Contains}
+use Rattle.dary_heap.proofs.{Contains-append_left, Contains-append_right, IsPermutation-refl, IsPermutation-sym, IsPermutation-trans, IsPermutation-cons, length_permutation, OnFalse, IsTotalOrder}
+use Rattle.dary_heap.proofs.{Ordering, written, IsSameBag, IsGreatest-same_bag, RisesWithin, refreshes, pop_bound, sink_bound, Contents, IsHeapOrdered, IsExceeded, Act, Write, Refresh, End, PutBack}
+use Rattle.dary_heap.proofs.{TakeOut, Seen, Old, Changed, Loan, Loaned, Acts, Ends, Serves, IsState, front, length-set, zero-le, Contains-first, IsAmong, IsAmong-cons, IsAmong-tail, IsAmong-same}
+use Rattle.dary_heap.proofs.{times_depth-later, ordered_state}
 use Rattle.dary_heap.proofs.Cancelling.{IsPermutation-uncons}
-use Rattle.dary_heap.proofs.Depth.{times_depth-later}
-use Rattle.dary_heap.proofs.Fronts.{ordered_state}
 use Rattle.dary_heap.proofs.run.SameStates.{HasGreater-same_bag}
 
 module _ {X : Type 0} (cmp : X → X → Ordering) where

@@ -1,5 +1,4 @@
-use Rattle.dary_heap.proofs.Common.{ap, refl, zero-le, Contents}
-use Rattle.dary_heap.proofs.Fronts.{same_state}
+use Rattle.dary_heap.proofs.{ap, refl, zero-le, Contents, same_state}
 use Rattle.dary_heap.proofs.run.Serving.{serves_same, appended}
 use Rattle.dary_heap.proofs.run.append.Goals as goal
 

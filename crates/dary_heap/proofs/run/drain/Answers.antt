@@ -1,7 +1,6 @@
-use Rattle.dary_heap.proofs.Common.{◌≡◌, ◌++◌, ◌∷◌, [], length, take, min, refl, sym, ap, ◌∙◌, arith, append_assoc, length-append, drain_rest, zero-le}
+use Rattle.dary_heap.proofs.{◌≡◌, ◌++◌, ◌∷◌, [], length, take, min, refl, sym, ap, ◌∙◌, arith, append_assoc, length-append, drain_rest, zero-le, same_state}
 use Rattle.std.proofs.lemmas.Bool.{some_since}
 use Rattle.std.proofs.lemmas.List.{take_min}
-use Rattle.dary_heap.proofs.Fronts.{same_state}
 use Rattle.dary_heap.proofs.run.Serving.{refused, serves_emptied, serves_same}
 use Rattle.dary_heap.proofs.sift.Written.{none_counted, written_back}
 use Rattle.dary_heap.proofs.run.drain.Goals as goal

@@ -1,10 +1,8 @@
-use Rattle.dary_heap.proofs.Common.{◌≡◌, length, min, refl, sym, ap, arith, is_some, nil_from_length, zero-le, Contents, drained_heap, ℕ, zero, suc, ◌+◌, ◌<◌, ◌≤◌, Bool, List, [], ◌∷◌, ◌∙◌}
-use Rattle.dary_heap.proofs.Common.{IsTotalOrder, Ordering, Yields, RisesWithin, pops_bound, Command, Reply, PopsInTurn, Serves, Yields-more, DrainsSorted}
-use Rattle.dary_heap.proofs.Fronts.{ordered_state}
+use Rattle.dary_heap.proofs.{◌≡◌, length, min, refl, sym, ap, arith, is_some, nil_from_length, zero-le, Contents, drained_heap, ℕ, zero, suc, ◌+◌, ◌<◌, ◌≤◌, Bool, List, [], ◌∷◌, ◌∙◌, IsTotalOrder}
+use Rattle.dary_heap.proofs.{Ordering, Yields, RisesWithin, pops_bound, Command, Reply, PopsInTurn, Serves, Yields-more, DrainsSorted, ordered_state, read}
 use Rattle.dary_heap.proofs.run.Serving.{refused, serves_emptied, serves_same}
 use Rattle.dary_heap.proofs.Popping.{keeps_heap_along, pops_bound_step}
 use Rattle.dary_heap.specs.declared.iter.drain_sorted.DrainSorted.{DrainSorted}
-use Rattle.dary_heap.proofs.Order.{read}
 use Rattle.dary_heap.proofs.run.drain_sorted.Goals as goal
 
 module _ {X J : Type 0} (cmp : X → X → Ordering) {D : ℕ} where
@@ -46,7 +44,7 @@ pub unwrap-requires : goal.unwrap-requires
 unwrap-requires g c =
     let before = c.loop.invariant in
     let begun = ap (λ (it : Contents g.row.T.Denot). length it.items) c.drain_sorted-items.ensures.heap in
-    let counts = drained_counts g.T.Ord.cmp _ _ _ before.given in
+    let counts = drained_counts g.T.Ord.cmp c.drain_sorted-items.result c.loop.taken.items c.loop.items before.given in
     let first = read (drained_heap c.loop.items).items 0 (omega (arith, c.loop-test.true, c.min-count.ensures, c.len.ensures.len, begun, counts.0, c.loop.taken.ok.0, before.long)) in
     ap is_some (c.next.ensures.steps.0.first ∙ first.1)
 
@@ -64,12 +62,13 @@ returns g c =
     let before = c.loop.invariant in
     let old = drained_heap c.drain_sorted-items.result in
     let begun = c.drain_sorted-items.ensures.heap in
-    let counts = drained_counts g.T.Ord.cmp _ _ _ before.given in
+    let counts = drained_counts g.T.Ord.cmp c.drain_sorted-items.result c.loop.taken.items c.loop.items before.given in
     let last = c.drop-items.ensures.counted in
-    let same = keeps_heap_along g.T.Ord.cmp c.drain_sorted-items.result _ _ before.given in
+    let same = keeps_heap_along g.T.Ord.cmp c.drain_sorted-items.result c.loop.taken.items c.loop.items before.given in
     let items : length c.args.heap.now.items ≡ length old.items = ap (λ (it : Contents g.row.T.Denot). length it.items) (sym begun) in
     let long : length c.loop.taken.items ≡ min c.args.count (length old.items) =
     omega (arith, c.min-count.ensures, c.len.ensures.len, items, c.loop.taken.ok.0, before.long, c.loop.auto.counter-end, c.loop-test.false) in
-    let in_turn = drained_in_turn g.T.Ord.cmp g.met.T.Ord.total c.args.count _ c.loop.taken.items _ before.given (omega (arith, long)) (λ fewer. nil_from_length _ (omega (arith, long, counts.0))) in
-    rw (← begun) (serves_behind c.drop-items.new.self.0 (grind (arith, same))
+    let in_turn = drained_in_turn g.T.Ord.cmp g.met.T.Ord.total c.args.count c.drain_sorted-items.result c.loop.taken.items c.loop.items before.given (omega (arith, long))
+    (λ fewer. nil_from_length _ (omega (arith, long, counts.0))) in
+    rw (← begun) (serves_behind c.drop-items.new.self.0 (search (arith, same))
     (serves_emptied c.drop-items.ensures.items (in_turn, refl) (record { rises = omega (arith, counts.2, last.rises); within = omega (arith, counts.1.within, last.within) }) tt zero-le))

@@ -1,7 +1,6 @@
-use Rattle.dary_heap.proofs.Common.{◌≡◌, ◌++◌, ◌∷◌, [], length, refl, sym, ap, ◌∙◌, arith, append_assoc, append-nil, length-append, slice_set, map-append, length-map, nil_from_length}
-use Rattle.dary_heap.proofs.Common.{into_iter_items, eqb-false, eqb-true, loaned, true≢false, zero-le}
+use Rattle.dary_heap.proofs.{◌≡◌, ◌++◌, ◌∷◌, [], length, refl, sym, ap, ◌∙◌, arith, append_assoc, append-nil, length-append, slice_set, map-append, length-map, nil_from_length, into_iter_items}
+use Rattle.dary_heap.proofs.{eqb-false, eqb-true, loaned, true≢false, zero-le, same_state}
 use Rattle.dary_heap.specs.Reading as read
-use Rattle.dary_heap.proofs.Fronts.{same_state}
 use Rattle.dary_heap.proofs.run.Serving.{serves_same}
 use Rattle.dary_heap.proofs.run.ServingLoan.{IsHeld, IsHeld-begins, IsHeld-write, IsHeld-refresh, put_back, taken_out}
 use Rattle.dary_heap.proofs.run.loan.Goals as goal
@@ -71,8 +70,8 @@ returns g c =
     elim c.match-end.branch [
       | in-Drop w ↦
           let h = w.drop.ensures in
-          rw (w.in-Drop.is, w.popped-is) (put_back (held g c) w.drop.new.self.0 c.match-end.heap (w.heap-is ∙ grind (arith, same)) h.ordered g.met.T.Ord.total h.counted h.bag h.first)
+          rw (w.in-Drop.is, w.popped-is) (put_back (held g c) w.drop.new.self.0 c.match-end.heap (w.heap-is ∙ search (arith, same)) h.ordered g.met.T.Ord.total h.counted h.bag h.first)
       | in-Pop w ↦
           let h = w.pop.ensures in
-          rw (w.in-Pop.is, w.popped-is) (taken_out (held g c) w.pop.new.this.0 c.match-end.heap (w.heap-is ∙ grind (arith, same)) h.ordered g.met.T.Ord.total w.pop.result h.counted h.first h.bag)
+          rw (w.in-Pop.is, w.popped-is) (taken_out (held g c) w.pop.new.this.0 c.match-end.heap (w.heap-is ∙ search (arith, same)) h.ordered g.met.T.Ord.total w.pop.result h.counted h.first h.bag)
     ]

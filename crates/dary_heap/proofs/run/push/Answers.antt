@@ -1,6 +1,4 @@
-use Rattle.dary_heap.proofs.Common.{◌∷◌, ◌++◌, [], refl, arith, length_permutation, IsPermutation-to_front, IsPermutation-trans}
-use Rattle.dary_heap.proofs.Bags.{IsAmong-same}
-use Rattle.dary_heap.proofs.Fronts.{same_state}
+use Rattle.dary_heap.proofs.{◌∷◌, ◌++◌, [], refl, arith, length_permutation, IsPermutation-to_front, IsPermutation-trans, IsAmong-same, same_state}
 use Rattle.dary_heap.proofs.run.Serving.{serves_same}
 use Rattle.dary_heap.proofs.run.push.Goals as goal
 

@@ -1,8 +1,7 @@
-use Rattle.dary_heap.proofs.Common.{◌≡◌, [], ◌∷◌, ◌++◌, length, map, All, Contains, sym, ap, ◌∙◌, subst, arith, inl, inr, append_assoc, append-nil, length-append, map-append, nil_from_length}
-use Rattle.dary_heap.proofs.Common.{Contains-append_left, Contains-append_right, Contains-append_cases, into_iter_items, IsCallableOn, items_in, predicates_in}
+use Rattle.dary_heap.proofs.{◌≡◌, [], ◌∷◌, ◌++◌, length, map, All, Contains, sym, ap, ◌∙◌, subst, arith, inl, inr, append_assoc, append-nil, length-append, map-append, nil_from_length}
+use Rattle.dary_heap.proofs.{Contains-append_left, Contains-append_right, Contains-append_cases, into_iter_items, IsCallableOn, items_in, predicates_in, ordered_state}
 use Rattle.dary_heap.specs.Reading as read
 use Rattle.dary_heap.proofs.run.Runs.{callable_one, items_of_one, Runs-begins, Runs-more}
-use Rattle.dary_heap.proofs.Fronts.{ordered_state}
 use Rattle.dary_heap.proofs.run.run.Goals as goal
 
 pub loop-command-init : goal.loop-command-init
@@ -66,3 +65,12 @@ returns-clause-runs g c =
 
 pub returns-in_default-clause-ordered : goal.returns-in_default-clause-ordered
 returns-in_default-clause-ordered g c = c.len.ensures.ordered
+
+pub returns-clause-ordered : goal.returns-clause-ordered
+returns-clause-ordered g c = c.loop-command.invariant.ordered
+
+pub push_reserved-requires : goal.push_reserved-requires
+push_reserved-requires g c = grind arith
+
+pub returns-in_default-clause-empty : goal.returns-in_default-clause-empty
+returns-in_default-clause-empty g c = grind arith

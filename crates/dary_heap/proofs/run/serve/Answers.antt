@@ -1,5 +1,4 @@
-use Rattle.dary_heap.proofs.Common.{arith, le_refl, refl, zero-le}
-use Rattle.dary_heap.proofs.Fronts.{same_state}
+use Rattle.dary_heap.proofs.{arith, le_refl, refl, zero-le, same_state}
 use Rattle.dary_heap.proofs.run.Serving.{asks, callable_on_front, pops_where, retained, serves_emptied, serves_same}
 use Rattle.dary_heap.proofs.run.serve.Goals as goal
 

@@ -1,5 +1,4 @@
-use Rattle.dary_heap.proofs.Common.{refl, zero-le}
-use Rattle.dary_heap.proofs.Fronts.{same_state}
+use Rattle.dary_heap.proofs.{refl, zero-le, same_state}
 use Rattle.dary_heap.proofs.run.Serving.{serves_kept}
 use Rattle.dary_heap.proofs.run.shrink.Goals as goal
 

@@ -114,3 +114,6 @@ returns-clause-within c = once_few c.loop-cost.invariant.once.once
 
 pub returns-clause-counted : goal.returns-clause-counted
 returns-clause-counted c = rw c.in_default-pop.ensures.unchanged (charged_ends c.loop-cost.invariant.charged)
+
+pub relax-requires : goal.relax-requires
+relax-requires c = grind arith

@@ -1,6 +1,5 @@
-use Rattle.dary_heap.proofs.Common.{◌++◌, length, length-append, ap, ◌∙◌, arith, IsPermutation-trans, length_permutation, IsPermutation-append_comm}
+use Rattle.dary_heap.proofs.{◌++◌, length, length-append, ap, ◌∙◌, arith, IsPermutation-trans, length_permutation, IsPermutation-append_comm, none_ordered}
 use Rattle.dary_heap.proofs.heap.DaryHeap.append.Goals as goal
-use Rattle.dary_heap.proofs.Order.{none_ordered}
 use Rattle.dary_heap.proofs.heap.DaryHeap.append.Goals.{then-len+in-Ok, else-len+in-Ok-reserve}
 
 pub returns-clause-bag : goal.returns-clause-bag
@@ -47,3 +46,6 @@ invariant_of-other-2 g c = none_ordered _ c.take_in.ensures.emptied
 
 pub returns-clause-other_ordered : goal.returns-clause-other_ordered
 returns-clause-other_ordered g c = none_ordered _ c.take_in.ensures.emptied
+
+pub returns-clause-uncounted : goal.returns-clause-uncounted
+returns-clause-uncounted g c = grind arith

@@ -1,4 +1,4 @@
-use Rattle.dary_heap.proofs.{rules, refl, sym, ap, ◌∙◌, subst, vec_capacity, Vec, Global, IsHeapOrdered, ordered_state}
+use Rattle.dary_heap.proofs.{rules, refl, sym, ap, ◌∙◌, subst, vec_capacity, Vec, Global, IsHeapOrdered, ordered_state, arith}
 use Rattle.dary_heap.proofs.heap.DaryHeap.peek_mut.Goals as goal
 
 pub returns : goal.returns
@@ -19,3 +19,6 @@ returns g c =
         same_reference = refl;
       },
     )
+
+pub invariant_of-result : goal.invariant_of-result
+invariant_of-result g c = grind arith

@@ -1,4 +1,4 @@
-use Rattle.dary_heap.proofs.Common.{◌≡◌, true, false, Some, refl, ◌∙◌}
+use Rattle.dary_heap.proofs.Common.{◌≡◌, true, false, Some, refl, ◌∙◌, arith}
 use Rattle.dary_heap.proofs.heap.DaryHeap.pop_if.Goals as goal
 
 pub returns-then-predicate-clause-asked : goal.returns-then-predicate-clause-asked
@@ -14,3 +14,6 @@ returns-else-predicate-clause-asked g c = λ item is.
     let first : Some shown.now ≡ Some item = c.in_ok-peek.ensures.first ∙ is in
     let same : shown.now ≡ item = (cc) in
     (false, (shown, c.if-predicate.ensures, same), refl)
+
+pub returns-in_err-peek : goal.returns-in_err-peek
+returns-in_err-peek g c = grind arith

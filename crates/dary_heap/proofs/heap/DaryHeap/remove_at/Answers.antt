@@ -1,7 +1,6 @@
 use Rattle.dary_heap.proofs.{◌≡◌, ◌∷◌, ◌++◌, [], length, take, ◌-◌, slice_get, sym, ap, subst, ◌∙◌, IsPermutation, IsPermutation-to_front, IsPermutation-trans, IsHeapOrdered}
 use Rattle.dary_heap.proofs.Callers.{ordered_but_at}
-use Rattle.dary_heap.proofs.sift.Sorting.{but_last_is, moved_last}
-use Rattle.dary_heap.proofs.sift.Written.{written_back}
+use Rattle.dary_heap.proofs.sift.{but_last_is, moved_last, written_back}
 use Rattle.dary_heap.proofs.heap.DaryHeap.remove_at.Goals as goal
 
 -- what `remove_with` leaves is what the heap keeps, and behind it the item that is taken off

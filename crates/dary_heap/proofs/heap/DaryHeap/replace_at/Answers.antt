@@ -1,7 +1,7 @@
 use Rattle.dary_heap.proofs.{◌≡◌, ◌∷◌, ◌++◌, [], set, slice_get, slice_get-get_or, Some, sym, ap, ◌∙◌, IsPermutation, IsPermutation-sym, IsPermutation-to_front, IsPermutation-trans}
+use Rattle.dary_heap.proofs.{arith, common_steps}
 use Rattle.dary_heap.proofs.Callers.{overwritten}
-use Rattle.dary_heap.proofs.sift.Sorting.{taken_first}
-use Rattle.dary_heap.proofs.sift.Written.{written_back}
+use Rattle.dary_heap.proofs.sift.{taken_first, written_back}
 use Rattle.dary_heap.proofs.heap.DaryHeap.replace_at.Goals as goal
 
 -- the slice before it is fixed
@@ -31,3 +31,9 @@ returns-clause-bag g c =
     let settled : IsPermutation (set xs c.args.place c.args.item) c.fix_with.new.items = rw (is g c) at c.fix_with.ensures.bag in
     rw (← c.self.view_is, written_back _ c.fix_with.new.items _ (c.fix_with.auto.items ∙ c.as_mut_slice.ensures.len))
     (IsPermutation-trans _ _ _ came (taken_first xs c.fix_with.new.items c.args.place c.args.item c.replace-old.result (was g c) settled))
+
+pub returns-clause-len : goal.returns-clause-len
+returns-clause-len g c = grind (arith, common_steps)
+
+pub returns-clause-stays : goal.returns-clause-stays
+returns-clause-stays g c = grind (arith, common_steps)

@@ -1,6 +1,5 @@
-use Rattle.dary_heap.proofs.{◌≡◌, ◌≢◌, ℕ, ◌+◌, ◌<◌, ◌≤◌, [], ◌∷◌, ◌++◌, Bool, true, false, List, length, take, drop, Some, slice_get, nat_eq, refl, sym, ap, ◌∙◌, arith, length-append}
-use Rattle.dary_heap.proofs.{slice_get_read, get_or_from_slice_get, CalledAt, ◌&&◌, bool_byte, TakesInTurn, swap, items_where_true, exchanges, add-one, le_refl, ne_eqb, take_all, take_more}
-use Rattle.dary_heap.proofs.{first_no}
+use Rattle.dary_heap.proofs.{◌≡◌, ◌≢◌, ℕ, ◌+◌, ◌<◌, ◌≤◌, [], ◌∷◌, ◌++◌, Bool, true, false, List, length, take, drop, Some, slice_get, nat_eq, refl, sym, ap, ◌∙◌, arith, length-append, slice_get_read}
+use Rattle.dary_heap.proofs.{get_or_from_slice_get, CalledAt, ◌&&◌, bool_byte, TakesInTurn, swap, items_where_true, exchanges, add-one, le_refl, ne_eqb, take_all, take_more, first_no}
 use Rattle.core.proofs.num.Orders.{Bool-small}
 use Rattle.std.proofs.Retain.{picked_push_false}
 use Rattle.std.proofs.lemmas.Bool.{eq-eqb}

@@ -1,4 +1,4 @@
-use Rattle.dary_heap.proofs.Common.{◌≡◌, ◌++◌, length, take, map, vec_capacity, sym, ap, ◌∙◌, subst, IsExtended, IsHeapOrdered, MatchResult-weaker}
+use Rattle.dary_heap.proofs.Common.{◌≡◌, ◌++◌, length, take, map, vec_capacity, sym, ap, ◌∙◌, subst, IsExtended, IsHeapOrdered, MatchResult-weaker, arith, common_steps}
 use Rattle.dary_heap.proofs.heap.Extending.{Yields-front, mended}
 use Rattle.dary_heap.proofs.sift.Written.{written_back}
 use Rattle.dary_heap.proofs.heap.join.extend_heap.Goals.{After-mend_with}
@@ -64,3 +64,6 @@ returns-clause-ran g c =
 -- what the call asks of the iterator that comes is what it was told
 pub push_all-outcome-requires : goal.push_all-outcome-requires
 push_all-outcome-requires g c = c.requires c.into_iter-iter.result c.into_iter-iter.ensures.into_iter_gives
+
+pub mend_with-requires : goal.mend_with-requires
+mend_with-requires g c = grind (arith, common_steps)

@@ -47,3 +47,6 @@ loop-rest-preserved g c =
       omega (arith, c.push_reserved.ensures.len, c.make_room.ensures.len, came.2, ran.holds.1, length-append ran.seen came.0, length-append (ran.seen ++ came.0) (x ∷ [])),
       omega (arith, c.push_reserved.ensures.capacity, c.make_room.ensures.capacity, c.replace_with-left.ensures.1.1, ran.holds.2),
     )
+
+pub next-requires : goal.next-requires
+next-requires g c = grind arith

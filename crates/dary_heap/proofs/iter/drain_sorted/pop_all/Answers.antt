@@ -1,3 +1,4 @@
+use Rattle.dary_heap.proofs.Common.{arith, common_steps}
 use Rattle.dary_heap.proofs.Popping.{one_popped}
 use Rattle.dary_heap.proofs.iter.drain_sorted.pop_all.Goals as goal
 
@@ -7,3 +8,6 @@ loop-preserved-in-Some g c =
 
 pub loop-preserved : goal.loop-preserved
 loop-preserved g c = record { ordered = c.in-Some.ensures.ordered; spent = one_popped g.row.D _ _ c.loop.invariant.spent c.in-Some.ensures.capacity c.in-Some.ensures.bag c.in-Some.ensures.counted }
+
+pub returns : goal.returns
+returns g c = grind (arith, common_steps)

@@ -1,4 +1,4 @@
-use Rattle.dary_heap.proofs.Common.{IsPermutation-refl, length_permutation, ◌≡◌, refl, ap, ◌∙◌, length, front, IsSameBag, IsHeapOrdered, IsExceeded, loaned}
+use Rattle.dary_heap.proofs.Common.{IsPermutation-refl, length_permutation, ◌≡◌, refl, ap, ◌∙◌, length, front, IsSameBag, IsHeapOrdered, IsExceeded, loaned, arith}
 use Rattle.dary_heap.proofs.peek_mut.Loans.{lone_uncounted, lone_unexceeded, sunk_unmoved}
 use Rattle.dary_heap.proofs.sift.Written.{none_counted, same_contents, written_back}
 use Rattle.dary_heap.proofs.peek_mut.PeekMut.drop.Goals.{After-swap, then-written, else-written}
@@ -69,7 +69,7 @@ returns-clause-capacity g c = rw c.swap.ensures.x_after (elim c.if-written.branc
 
 pub returns-clause-unwritten : goal.returns-clause-unwritten
 returns-clause-unwritten g c = λ settled. rw c.swap.ensures.x_after (elim c.if-written.branch [
-  | then-written w ↦ let is = w.if-written.true in cc
+  | then-written w ↦ grind arith
   | else-written w ↦ same_contents _ _ (rw w.items-is c.into_vec-items.ensures.items) (rw w.items-is c.into_vec-items.ensures.capacity) (rw (w.heap-inside-is, ← c.heap.view_is) refl)
 ])
 

@@ -1,4 +1,4 @@
-use Rattle.dary_heap.proofs.{rules, refl, ap, ◌≡◌, ◌∙◌, List, ◌++◌, length, take, arith, Contents, IsHeapOrdered, IsPermutation-refl, length_permutation, below_root, ordered_state}
+use Rattle.dary_heap.proofs.{rules, refl, ap, ◌≡◌, ◌∙◌, List, ◌++◌, length, take, arith, Contents, IsHeapOrdered, IsPermutation-refl, length_permutation, below_root, ordered_state, common_steps}
 use Rattle.dary_heap.proofs.peek_mut.Loans.{lone_uncounted, lone_unexceeded, none_exceeds, sunk_moved, sunk_unmoved}
 use Rattle.dary_heap.proofs.sift.Written.{none_counted, same_contents, written_back}
 use Rattle.dary_heap.proofs.peek_mut.methods.PeekMut+T+D+J.refresh.Goals.{After-self-1}
@@ -60,3 +60,6 @@ returns-clause-bag g c = rw (written g (goal.at.returns-clause-bag g c).After-se
 
 pub returns-clause-len : goal.returns-clause-len
 returns-clause-len g c = length_permutation _ _ (returns-clause-bag g c)
+
+pub returns-clause-unmoved : goal.returns-clause-unmoved
+returns-clause-unmoved g c = grind (arith, common_steps)
