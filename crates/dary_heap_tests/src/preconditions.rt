@@ -266,13 +266,15 @@ fn a_flipped_judge_gives_the_least_first(rt: HostRuntime) -> Tested {
         tally: Tally::new(),
     };
     build_with::<_, _, 2>(&mut items, &mut judge);
-    let seen = (items.as_slice(), judge.tally.made());
-    assert_eq!(rt; seen, ([1, 2, 4, 5, 3].as_slice(), 6));
+    compare(&rt, &items, &[1, 2, 4, 5, 3], &judge, 6);
     assert_eq!(rt; pop_with::<_, _, 2>(&mut items, &mut judge), Some(1));
-    let seen = (items.as_slice(), judge.tally.made());
-    assert_eq!(rt; seen, ([2, 3, 4, 5].as_slice(), 6 + 3));
+    compare(&rt, &items, &[2, 3, 4, 5], &judge, 6 + 3);
     push_with::<_, _, 2>(&mut items, 0, &mut judge)?;
-    let seen = (items.as_slice(), judge.tally.made());
-    assert_eq!(rt; seen, ([0, 2, 4, 5, 3].as_slice(), 6 + 3 + 2));
+    compare(&rt, &items, &[0, 2, 4, 5, 3], &judge, 6 + 3 + 2);
     Ok(())
+}
+
+/// Compares the items and the comparisons made.
+fn compare(rt: &impl Host, items: &[i32], wanted: &[i32], judge: &Flipped, made: u64) {
+    assert_eq!(rt; (items, judge.tally.made()), (wanted, made));
 }

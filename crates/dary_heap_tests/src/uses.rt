@@ -106,13 +106,9 @@ impl Handler for Balls {
     fn handle(&mut self, name: usize, moment: u64) -> Vec<Change> {
         let _ = self.bounces.push((name, moment));
         let mut changes = Vec::new(self.alloc);
-        let height = if name == 0 {
-            self.heights[0]
-        } else {
-            self.heights[1]
-        };
+        let height = self.heights[name.min(1)];
         if height > 0 {
-            self.heights[if name == 0 { 0 } else { 1 }] = height / 2;
+            self.heights[name.min(1)] = height / 2;
             let _ = changes.push(Change::Schedule(name, moment.saturating_add(height)));
         } else {
             let _ = changes.push(Change::Revoke(1));
@@ -133,10 +129,8 @@ fn balls_bounce_in_the_order_of_moments(rt: HostRuntime) -> Tested {
     events.set(1, 3)?;
     // Bounces at 0, 3 and 8, then at 12 and 14, and no budget for more.
     for (end, budget, handled) in [(9, 100, 3), (100, 2, 2)] {
-        assert_eq!(rt;
-            run(&mut events, &mut balls, end, budget).ok(),
-            Some(handled)
-        );
+        let ran = run(&mut events, &mut balls, end, budget).ok();
+        assert_eq!(rt; ran, Some(handled));
     }
     assert_eq!(rt; events.moment_of(1), Some(23));
     // The first lies at 15, and the second is caught.

@@ -1,7 +1,7 @@
 //! The same searches over heaps that count: each makes the calls of its heap that the function makes.
 
 use crate::search::{START, lists_of};
-use crate::work::{Change, room};
+use crate::work::Change;
 use dary_heap::DaryHeap;
 use dary_heap::shortest_path::{Edge, State};
 use dary_heap::sift::{LeastFirst, Tally};
@@ -86,10 +86,11 @@ pub(crate) fn count<W: Waiting>(
     let lists = lists_of(alloc, edges, degree)?;
     let mut waiting = W::new(alloc);
     let most = search(alloc, &lists, edges.len(), goal, &mut waiting)?;
-    let counts = [waiting.made(), most as u64];
-    for (place, count) in room(out, 2)?.iter_mut().zip(&counts) {
-        *place = *count;
-    }
+    let [made, entries, ..] = out else {
+        return Err(AllocError);
+    };
+    *made = waiting.made();
+    *entries = most as u64;
     Ok(2)
 }
 
