@@ -47,5 +47,8 @@ invariant_of-other-2 g c = none_ordered _ c.take_in.ensures.emptied
 pub returns-clause-other_ordered : goal.returns-clause-other_ordered
 returns-clause-other_ordered g c = none_ordered _ c.take_in.ensures.emptied
 
+pub returns-in_default-reserve : goal.returns-in_default-reserve
+returns-in_default-reserve g c = grind arith
+
 pub returns-clause-uncounted : goal.returns-clause-uncounted
 returns-clause-uncounted g c = grind arith
