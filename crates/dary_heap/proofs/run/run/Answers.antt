@@ -65,12 +65,3 @@ returns-clause-runs g c =
 
 pub returns-in_default-clause-ordered : goal.returns-in_default-clause-ordered
 returns-in_default-clause-ordered g c = c.len.ensures.ordered
-
-pub returns-clause-ordered : goal.returns-clause-ordered
-returns-clause-ordered g c = c.loop-command.invariant.ordered
-
-pub push_reserved-requires : goal.push_reserved-requires
-push_reserved-requires g c = grind arith
-
-pub returns-in_default-clause-empty : goal.returns-in_default-clause-empty
-returns-in_default-clause-empty g c = grind arith
