@@ -2,7 +2,7 @@
 use Rattle.dary_heap.proofs.Common.{◌≡◌, ◌≢◌, ◌⊎◌, ◌-◌, ◌<◌, ◌≤◌, ◌∷◌, ◌++◌, ◌∙◌, ℕ, List, [], length, map, set, get_or, swap, refl, sym, ap, subst, arith, inl, inr, Some, slice_get}
 use Rattle.dary_heap.proofs.Common.{cases_eq, cases_lt, IsPermutation, IsPermutation-append_left, IsPermutation-sym, IsPermutation-trans, Contains-permutation, IsDistinct}
 use Rattle.dary_heap.proofs.Common.{IsDistinct-IsPermutation, nat_eq, nat_eq_equiv, ne_eqb, eqb-false, Ordering, IsHeapOrdered, IsHeapOrderedButAt, length-append, length-map}
-use Rattle.dary_heap.proofs.Common.{length-set, length_permutation, get_or-set_same, get_or_from_slice_get, slice_get-get_or, slice_get_within}
+use Rattle.dary_heap.proofs.Common.{length-set, length_permutation, get_or_from_slice_get, slice_get-get_or, slice_get_within}
 use Rattle.dary_heap.proofs.Depth.{parent-below}
 use Rattle.dary_heap.proofs.Order.{Exchanges, exchanges, read, slice_get-set_other, slice_get-set_same, slice_get-append, slice_get-push}
 use Rattle.dary_heap.proofs.Path.{GoesUpBy-above, above-le, next_on_path, on_path_or_still}

@@ -1,6 +1,6 @@
 -- What keeps places right.
 use Rattle.dary_heap.proofs.Common.{◌≡◌, ◌≢◌, ℕ, ◌<◌, ◌≤◌, Bool, true, false, if◌then◌else◌, List, [], length, nil_from_length, get_or, set, sym, ap, ◌∙◌, subst, arith, inl, inr, Some, slice_get}
-use Rattle.dary_heap.proofs.Common.{◌⊎◌, zero, suc, refl, parent, swap, cases_eq, cases_lt, get_or-set_same, length-set, slice_get-get_or, slice_get_within}
+use Rattle.dary_heap.proofs.Common.{◌⊎◌, zero, suc, refl, parent, swap, cases_eq, cases_lt, length-set, slice_get_within}
 use Rattle.dary_heap.proofs.Depth.{parent-below}
 use Rattle.dary_heap.proofs.Order.{Exchanges, exchanges, read, reads, slice_get-set_other, slice_get-set_same}
 use Rattle.dary_heap.proofs.Path.{GoesUpBy-above, lone_on_path, next_on_path, on_path_or_still}
