@@ -19,7 +19,7 @@ def lay_out(tree, *names):
     for name in needed:
         empty(tree / "crates" / name)
         shutil.copytree(TOP / "crates" / name, tree / "crates" / name, ignore=shutil.ignore_patterns("out"), dirs_exist_ok=True)
-    (tree / "crates.txt").write_text("".join(f"{row}\n" for it, row in rows.items() if it in needed), encoding="utf-8")
+    set_rows(tree, "".join(f"{row}\n" for it, row in rows.items() if it in needed))
     shutil.copy(TOP / "HANDLES", tree)
     # (crates.txt has each crate below those that stand on it)
     return [it for it in rows if it in needed]
@@ -28,14 +28,26 @@ def lay_out(tree, *names):
 def add_caller(tree, files, *libraries):
     """Adds a crate `my_crate` over these libraries to a repository, in place of an earlier one. Its files are a dict from path to
     text. Returns its folder."""
-    folder, crates = tree / "crates/my_crate", tree / "crates.txt"
-    shutil.rmtree(folder, ignore_errors=True)
-    rows = [it for it in crates.read_text(encoding="utf-8").splitlines() if not it.startswith("my_crate:")]
-    crates.write_text("".join(f"{it}\n" for it in [*rows, f"my_crate: {' '.join(libraries)}"]), encoding="utf-8")
+    folder, rows = remove_caller(tree), (tree / "crates.txt").read_text(encoding="utf-8")
     for path, text in files.items():
         (folder / path).parent.mkdir(parents=True, exist_ok=True)
         (folder / path).write_text(text, encoding="utf-8")
+    set_rows(tree, f"{rows}my_crate: {' '.join(libraries)}\n")
     return folder
+
+
+def remove_caller(tree):
+    """Removes that crate, if it is there. Returns its folder."""
+    folder, rows = tree / "crates/my_crate", (tree / "crates.txt").read_text(encoding="utf-8")
+    set_rows(tree, re.sub(r"^my_crate:.*\n", "", rows, flags=re.M))
+    shutil.rmtree(folder, ignore_errors=True)
+    return folder
+
+
+def set_rows(tree, rows):
+    """Writes crates.txt, which another command may read meanwhile, at once."""
+    (tree / "crates.new").write_text(rows, encoding="utf-8")
+    (tree / "crates.new").rename(tree / "crates.txt")
 
 
 def empty(crate):
