@@ -1,12 +1,12 @@
 //! The functions that the README shows without contracts, and others, each of which shows a call.
 ghost use Rattle.std.specs.Ordering.{nat_cmp};
-ghost use Rattle.std.specs.Prelude.{◌≡◌, ◌+◌, ◌<◌, ◌≤◌, ◌↔◌, ◌∷◌, [], ℕ, length, set, Some, IsSome, IfSome, IfNone, IfOk, IfErr};
+ghost use Rattle.std.specs.Prelude.{◌≡◌, ◌+◌, ◌<◌, ◌≤◌, ◌↔◌, ◌∷◌, [], ℕ, All, length, set, Some, IsSome, IfSome, IfNone, IfOk, IfErr};
 ghost use Rattle.dary_heap.specs.Bag.{IsGreatest, IsSameBag};
 ghost use Rattle.dary_heap.specs.Bounds.{RisesWithin, pop_bound, sink_bound};
 ghost use Rattle.dary_heap.specs.HeapOrder.{IsHeapOrdered};
 ghost use Rattle.dary_heap.specs.State.{front};
 
-use dary_heap::sift::{ByOrd, fix_with};
+use dary_heap::sift::{ByOrd, LeastFirst, fix_with};
 use dary_heap::{BinaryHeap, DaryHeap, TernaryHeap};
 use std::alloc::Global;
 use std::mem;
@@ -91,6 +91,15 @@ pub fn greatest_two<const D: usize>(heap: &mut DaryHeap<u32, D>) -> Option<(u32,
     let first = numbers.next()?;
     let second = numbers.next()?;
     Some((first, second))
+}
+
+/// Takes a least number out of a heap whose judge has the order the other way round.
+pub fn pop_least<const D: usize>(heap: &mut DaryHeap<u32, D, LeastFirst<ByOrd>>) -> Option<u32>
+    ensures some { IsSome result ↔ (0 < length heap.old.items) }
+    ensures least { IfSome result (λ number. All (λ other. number ≤ other) heap.new.items) }
+    ensures bag { IfSome result (λ number. IsSameBag heap.old.items (number ∷ heap.new.items)) }
+{
+    heap.pop()
 }
 
 /// Puts another number at a place, below the length, of a slice that is heap ordered at arity 4, and leaves

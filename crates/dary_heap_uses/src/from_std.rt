@@ -2,9 +2,9 @@
 ghost use Rattle.std.specs.BinaryHeap.{IsHeap, heap_items};
 ghost use Rattle.std.specs.BTreeMap.{get};
 ghost use Rattle.std.specs.Ordering.{nat_cmp};
-ghost use Rattle.std.specs.Prelude.{◌≡◌, ◌≢◌, ℕ, ◌+◌, ◌<◌, ◌≤◌, ◌↔◌, [], ◌∷◌, ◌++◌, nat_lt, All, count_by, length, vec_len, IsOk, IsSome, IfSome, IfNone, IfOk, OnOk, OnErr};
+ghost use Rattle.std.specs.Prelude.{◌≡◌, ◌≢◌, ℕ, ◌+◌, ◌<◌, ◌≤◌, ◌-◌, ◌↔◌, [], ◌∷◌, ◌++◌, nat_lt, All, count_by, length, vec_len, IsOk, IsSome, IfSome, IfNone, IfOk, OnOk, OnErr};
 ghost use Rattle.dary_heap.specs.Bag.{IsSameBag};
-ghost use Rattle.dary_heap_uses.specs.FromStd.{NoneHigher, up_to, IsRange, prices_at};
+ghost use Rattle.dary_heap_uses.specs.FromStd.{NoneHigher, up_to, Falls, IsLead, IsRange, prices_at};
 
 use dary_heap::{BinaryHeap, DaryHeap};
 use std::alloc::{AllocError, Global};
@@ -18,6 +18,28 @@ pub fn add_price(prices: &mut BinaryHeap<u32>, price: u32) -> Result<(), AllocEr
 {
     prices.push(price).map_err(|_| AllocError)?;
     Ok(())
+}
+
+/// Takes the highest price out. No price that stays is higher.
+pub fn highest(prices: &mut BinaryHeap<u32>) -> Option<u32>
+    ensures some { IsSome result ↔ (0 < length prices.old.items) }
+    ensures bag { IfSome result (λ price. IsSameBag prices.old.items (price ∷ prices.new.items)) }
+    ensures unchanged { IfNone result (prices.new ≡ prices.old) }
+    ensures below { IfSome result (λ price. NoneHigher price prices.new.items) }
+{
+    prices.pop()
+}
+
+/// Takes the two highest prices out and returns by how much the first exceeds the second, or `None` if there
+/// were fewer than two. A single price is taken out too.
+pub fn lead(prices: &mut BinaryHeap<u32>) -> Option<u32>
+    ensures some { IsSome result ↔ (2 ≤ length prices.old.items) }
+    ensures lead { IfSome result (λ lead. IsLead prices.old.items lead prices.new.items) }
+    ensures len { length prices.new.items ≡ length prices.old.items - 2 }
+{
+    let first = prices.pop()?;
+    let second = prices.pop()?;
+    Some(first - second)
 }
 
 /// Takes the highest price out if it is at least the bound. No price was higher, and none that stays is.
@@ -45,6 +67,19 @@ pub fn range(prices: Vec<u32>) -> Option<(u32, u32)>
     Some((sorted[0], sorted[sorted.len() - 1]))
 }
 
+/// Returns the prices from the highest down, by one pop after another. Fails if memory allocation fails.
+pub fn falling(alloc: Global, prices: BinaryHeap<u32>) -> Result<Vec<u32>, AllocError>
+    ensures bag { IfOk result (λ list. IsSameBag prices.items list.items) }
+    ensures falls { IfOk result (λ list. Falls list.items) }
+{
+    let mut left = prices;
+    let mut list = Vec::with_capacity(alloc, left.len())?;
+    while let Some(price) = left.pop() {
+        list.push_reserved(price);
+    }
+    Ok(list)
+}
+
 /// Adds prices for which there is room. So it can't fail.
 pub fn add_all(prices: &mut BinaryHeap<u32>, more: Vec<u32>) -> Result<(), AllocError>
     requires { length prices.old.items + vec_len more ≤ prices.old.capacity }
@@ -63,6 +98,18 @@ pub fn cut(prices: &mut BinaryHeap<u32>, limit: u32) -> usize
     let before = prices.len();
     prices.retain(|price| *price <= limit);
     before - prices.len()
+}
+
+/// Moves all prices of one heap into another and returns how many there are then. If it fails, neither changes.
+pub fn join(prices: &mut BinaryHeap<u32>, others: &mut BinaryHeap<u32>) -> Result<usize, AllocError>
+    ensures bag { OnOk result (IsSameBag (prices.old.items ++ others.old.items) prices.new.items) }
+    ensures emptied { OnOk result (others.new.items ≡ []) }
+    ensures all { IfOk result (λ all. all ≡ length prices.old.items + length others.old.items) }
+    ensures unchanged { OnErr result (prices.new ≡ prices.old) }
+    ensures others_unchanged { OnErr result (others.new ≡ others.old) }
+{
+    prices.append(others)?;
+    Ok(prices.len())
 }
 
 /// Makes a heap of std's heap, which must be heap ordered (a precondition). The vector stays as it is.
