@@ -67,17 +67,12 @@ pub fn range(prices: Vec<u32>) -> Option<(u32, u32)>
     Some((sorted[0], sorted[sorted.len() - 1]))
 }
 
-/// Returns the prices from the highest down, by one pop after another. Fails if memory allocation fails.
+/// Returns the prices from the highest down. Fails if memory allocation fails.
 pub fn falling(alloc: Global, prices: BinaryHeap<u32>) -> Result<Vec<u32>, AllocError>
     ensures bag { IfOk result (λ list. IsSameBag prices.items list.items) }
     ensures falls { IfOk result (λ list. Falls list.items) }
 {
-    let mut left = prices;
-    let mut list = Vec::with_capacity(alloc, left.len())?;
-    while let Some(price) = left.pop() {
-        list.push_reserved(price);
-    }
-    Ok(list)
+    prices.into_iter_sorted().collect(alloc)
 }
 
 /// Adds prices for which there is room. So it can't fail.

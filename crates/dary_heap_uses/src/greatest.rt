@@ -44,7 +44,14 @@ pub fn greatest<T: Ord + Drop, I: IntoIterator<Item = T>, const D: usize>(
 {
     let mut kept = DaryHeap::new(alloc);
     for item in stream {
-        offer(&mut kept, k, item)?;
+        if kept.len() < k {
+            let Ok(()) = kept.push(Reverse(item)) else {
+                return Err(AllocError);
+            };
+        } else {
+            // A least of them all goes.
+            push_pop(&mut kept, Reverse(item));
+        }
     }
     Ok(kept)
 }
@@ -70,25 +77,4 @@ pub fn first_few<T: Ord + Drop, const D: usize>(
         × (length few.items ≡ min k (length heap.items))) }
 {
     heap.into_iter_sorted().take(k).collect(alloc)
-}
-
-/// Takes an item in. If `k` are kept, a least of them all goes.
-fn offer<T: Ord + Drop, const D: usize>(
-    kept: &mut DaryHeap<Reverse<T>, D>,
-    k: usize,
-    item: T,
-) -> Result<(), AllocError>
-    requires { length kept.old.items ≤ k }
-    ensures greatest { OnOk result ((items : List T)
-        → KeepsGreatest T.cmp k items (values kept.old.items)
-        → KeepsGreatest T.cmp k (items ++ item ∷ []) (values kept.new.items)) }
-    ensures counted { OnOk result
-        (RisesWithin kept.old.comparisons kept.new.comparisons (push_bound D k + pop_bound D k)) }
-    ensures few { OnOk result (length kept.new.items ≤ k) }
-{
-    if kept.len() < k {
-        return kept.push(Reverse(item)).map_err(|_| AllocError);
-    }
-    push_pop(kept, Reverse(item));
-    Ok(())
 }
