@@ -11,5 +11,7 @@ returns-clause-left c =
 
 pub returns-clause-cut : goal.returns-clause-cut
 returns-clause-cut c =
-    let both = length-filter_both (λ price. leb price c.args.limit) (ltb c.args.limit) (above c.args.limit) c.args.prices.now.items in
-    omega (arith, c.len-before.ensures.len, c.len.ensures.len, length_permutation _ _ (returns-clause-left c), both, length-filter (ltb c.args.limit) c.args.prices.now.items)
+    let kept = c.retain.ensures.retained in
+    let left = rw (filter_same _ (λ price. leb price c.args.limit) _ (λ price answer after call. search rules) _ _ (kept.answers, kept.after, kept.all, kept.asked, refl)) at kept.bag in
+    let both = length-filter_both (λ price. leb price c.args.limit) (λ price. ltb c.args.limit price) (above c.args.limit) c.args.prices.now.items in
+    omega (arith, c.len-before.ensures.len, c.len.ensures.len, length_permutation _ _ left, both, length-filter (λ price. ltb c.args.limit price) c.args.prices.now.items)
