@@ -116,13 +116,7 @@ impl<J> Scheduler<J> {
     }
 
     /// Submits a job. If a job of this id waits, the new one takes its place, and the old one is returned. That
-    /// allocates no memory.
-    ///
-    /// # Preconditions
-    ///
-    /// - Fewer than `u64::MAX` jobs were submitted so far.
-    ///
-    /// # Errors
+    /// allocates no memory. Fewer than `u64::MAX` jobs must have been submitted so far (a precondition).
     ///
     /// Fails with the job if memory allocation fails, or if the id is `usize::MAX`. This happens only if no job of
     /// this id waits, and all room is in use or the id is past the room for ids. The jobs stay as they are.
