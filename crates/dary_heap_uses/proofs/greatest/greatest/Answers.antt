@@ -1,6 +1,46 @@
-use Rattle.dary_heap_uses.proofs.{arith, came_in, depth-later, least_out, length, length-map, length_permutation, length_push, refl, reversed_came, reversed_least, reversed_went, sunk_within}
-use Rattle.dary_heap_uses.proofs.{values, ◌<◌, ◌∷◌, ◌≡◌}
+use Rattle.dary_heap_uses.proofs.{Contains-cases, Contains-permutation, Greater, IsGreatest, IsPermutation-append_left, IsPermutation-middle, IsPermutation-push_more, IsPermutation-sym}
+use Rattle.dary_heap_uses.proofs.{IsPermutation-trans, IsPermutation-uncons, IsSameBag, IsTotalOrder, KeepsGreatest, List, Ordering, RisesWithin, [], arith, came_later, depth-later, depth-parent, inl}
+use Rattle.dary_heap_uses.proofs.{inr, length, length-append, length-map, length_permutation, length_push, not_greater-trans, pop_bound, push_bound, refl, reversed_came, reversed_least, reversed_went}
+use Rattle.dary_heap_uses.proofs.{sink_bound, subst, suc, sym, values, zero, ℕ, ◌++◌, ◌+◌, ◌<◌, ◌∷◌, ◌≡◌, ◌≢◌, ◌≤◌}
 use Rattle.dary_heap_uses.proofs.greatest.greatest.Goals as goal
+
+module _ {X : Type 0} {cmp : X → X → Ordering} (total : IsTotalOrder cmp) (k : ℕ) (items : List X) where
+  -- there was room for it
+  came_in : (x : X) (old new : List X) → KeepsGreatest cmp k items old → length old < k → IsSameBag (x ∷ old) new → KeepsGreatest cmp k (items ++ x ∷ []) new
+  came_in x old new h room bag =
+      let whole : length old + length h.left_out ≡ length items = omega (arith, length_permutation items (old ++ h.left_out) h.together, length-append old h.left_out) in
+      record {
+        left_out = h.left_out;
+        together = IsPermutation-push_more items (old ++ h.left_out) (new ++ h.left_out) x h.together (IsPermutation-append_left h.left_out (x ∷ old) new bag);
+        as_many = omega (arith, h.as_many, length_permutation (x ∷ old) new bag, length-append items (x ∷ []));
+        none_greater = λ a y out in'. absurd (omega (arith, h.as_many, out.1));
+      }
+
+  -- of those that were kept and this one, a least was left out
+  least_out : (x out : X) (old new : List X) → KeepsGreatest cmp k items old → k ≤ length old → IsSameBag (x ∷ old) (out ∷ new) → IsGreatest (λ a b. cmp b a) (x ∷ old) out →
+      KeepsGreatest cmp k (items ++ x ∷ []) new
+  least_out x out old new h full bag least =
+      let back = IsPermutation-sym (x ∷ old) (out ∷ new) bag in
+      record {
+        left_out = out ∷ h.left_out;
+        together = IsPermutation-push_more items (old ++ h.left_out) (new ++ out ∷ h.left_out) x h.together
+            (IsPermutation-trans _ _ _ (IsPermutation-append_left h.left_out (x ∷ old) (out ∷ new) bag) (IsPermutation-sym _ _ (IsPermutation-middle new out h.left_out)));
+        as_many = omega (arith, h.as_many, length_permutation (x ∷ old) (out ∷ new) bag, length-append items (x ∷ []));
+        none_greater = λ a y gone stays.
+            let under : cmp out y ≢ Greater = least.none_above y (came_later out new (x ∷ old) y back stays) in
+            elim (Contains-cases out h.left_out a gone) [
+              | inl same ↦ subst (λ v. cmp v y ≢ Greater) same under
+              | inr before ↦ elim (Contains-cases x old out least.occurs) [
+                | inl is ↦ h.none_greater a y before (Contains-permutation new old y (IsPermutation-uncons x new old (subst (λ v. IsSameBag (v ∷ new) (x ∷ old)) (sym is) back)) stays)
+                | inr there ↦ not_greater-trans total a out y (h.none_greater a out before there) under
+              ]
+            ];
+      }
+
+-- sinking the first of k items costs no more than a push onto so many and a pop from them may
+sunk_within : {old new : ℕ} (D k : ℕ) → RisesWithin old new (sink_bound D k) → RisesWithin old new (pop_bound D k + 1) → RisesWithin old new (push_bound D k + pop_bound D k)
+sunk_within D zero sunk tight = record { rises = sunk.rises; within = omega (arith, sunk.within) }
+sunk_within D (suc k) sunk tight = record { rises = tight.rises; within = omega (arith, tight.within, depth-parent D (suc k) (omega arith)) }
 
 -- there was room for one more
 pub loop-item-preserved-in-Ok-1 : goal.loop-item-preserved-in-Ok-1
