@@ -1,7 +1,7 @@
 -- The steps of a simulation, one more at a time.
-use Rattle.dary_heap_uses.proofs.Common.{All, All-contains, All-permutation, All-push, All-tail, All-weaker, Change, FoldsTo, FoldsTo-push, Gets-all, IsBefore, IsMade, IsNotBefore, IsRun, IsStep}
-use Rattle.dary_heap_uses.proofs.Common.{List, Loses-all, Revoke, Schedule, Step, [], all_pairs_push, ap, arith, get_or, length, length_push, subst, ℕ, ◌++◌, ◌+◌, ◌∙◌, ◌∷◌, ◌≡◌, ◌≤◌}
-use Rattle.dary_heap_uses.proofs.Taking.{before_up}
+use Rattle.dary_heap_uses.proofs.Common.{All, All-contains, All-nil, All-push, All-tail, All-weaker, Change, FoldsTo, FoldsTo-push, Gets-all, IsBefore, IsMade, IsNotBefore, IsRun}
+use Rattle.dary_heap_uses.proofs.Common.{IsStep, List, Loses-all, Revoke, Schedule, Step, [], all_pairs_push, ap, arith, length, length_push, refl, subst, ℕ, ◌++◌, ◌+◌, ◌∙◌, ◌∷◌, ◌≡◌, ◌≤◌}
+use Rattle.dary_heap_uses.proofs.Taking.{all_left, before_up}
 
 -- from this moment on
 abbrev pub From : ℕ → ℕ × ℕ → Type 0
@@ -15,29 +15,41 @@ all_from now (Schedule name moment ∷ changes) old new made later all = all_fro
 all_from now (Revoke name ∷ changes) old new made later all =
     all_from now changes made.0 new made.2 (All-tail (IsNotBefore now) (Revoke name) changes later) (Loses-all (From now) name old made.0 made.1.0 made.1.1 all)
 
-module _ {H : Type 0} (handles : H → ℕ × ℕ → List Change → H → Type 0) (end : ℕ) (old : List (ℕ × ℕ) × H) where
-  -- so many steps led here, and none that waits is before one of them
-  pub record IsRunning (handled : ℕ) (new : List (ℕ × ℕ) × H) : Type 0 where
+module _ {H : Type 0} (handles : H → ℕ × ℕ → List Change → H → Type 0) (end : ℕ) where
+  -- so many steps led here, none of them after this moment, and no event waits for an earlier one
+  pub record IsRunning (handled : ℕ) (old new : List (ℕ × ℕ) × H) : Type 0 where
+    pub now : ℕ
     pub steps : List Step
     pub many : length steps ≡ handled
     pub run : IsRun handles end old steps new
-    pub none_before : All (λ step. All (From step.event.1) new.0) steps
+    pub past : All (λ step. step.event.1 ≤ now) steps
+    pub waiting : All (From now) new.0
 
-  pub one_more : (handled : ℕ) (mid : List (ℕ × ℕ) × H) (step : Step) (new : List (ℕ × ℕ) × H) → IsRunning handled mid → IsStep handles end step.changes mid step new →
-      All (IsNotBefore step.event.1) step.changes → IsRunning (handled + 1) new
-  one_more handled mid step new h this later =
+  pub none_handled : (old : List (ℕ × ℕ) × H) → IsRunning 0 old old
+  none_handled old = record {
+    now = 0;
+    steps = [];
+    many = refl;
+    run = record { each = refl; forward = λ i j d lower within. absurd (omega (arith, within)) };
+    past = All-nil (λ (step : Step). step.event.1 ≤ 0);
+    waiting = λ k d within. omega arith;
+  }
+
+  pub one_more : (handled : ℕ) (old mid : List (ℕ × ℕ) × H) (step : Step) (new : List (ℕ × ℕ) × H) → IsRunning handled old mid → IsStep handles end step.changes mid step new →
+      All (IsNotBefore step.event.1) step.changes → IsRunning (handled + 1) old new
+  one_more handled old mid step new h this later =
       let now = step.event.1 in
-      let waiting = All-permutation (From now) mid.0 (step.event ∷ this.left) this.taken (All-weaker (IsBefore step.event) (From now) (before_up step.event) mid.0 this.first.before) in
-      let after = all_from now step.changes this.left new.0 this.changed later (All-tail (From now) step.event this.left waiting) in
-      let up = λ (s : Step) (none : All (From s.event.1) mid.0). All-contains (From s.event.1) mid.0 step.event none this.first.is_set in
+      let up = All-contains (From h.now) mid.0 step.event h.waiting this.first.is_set in
+      let past = All-weaker (λ (s : Step). s.event.1 ≤ h.now) (λ (s : Step). s.event.1 ≤ now) (λ s before. omega (arith, before, up)) h.steps h.past in
+      let waiting = All-weaker (IsBefore step.event) (From now) (before_up step.event) mid.0 this.first.before in
       record {
+        now = now;
         steps = h.steps ++ step ∷ [];
         many = length_push h.steps step ∙ ap (λ (n : ℕ). n + 1) h.many;
         run = record {
           each = FoldsTo-push (λ before s after. IsStep handles end s.changes before s after) old h.steps mid step new h.run.each this;
-          forward = all_pairs_push (λ (a b : Step). a.event.1 ≤ b.event.1) h.steps step h.run.forward (λ k d within. up (get_or h.steps k d) (h.none_before k d within));
+          forward = all_pairs_push (λ (a b : Step). a.event.1 ≤ b.event.1) h.steps step h.run.forward past;
         };
-        none_before = All-push (λ (s : Step). All (From s.event.1) new.0) h.steps step
-            (All-weaker (λ (s : Step). All (From s.event.1) mid.0) (λ (s : Step). All (From s.event.1) new.0)
-            (λ s none. let low = up s none in All-weaker (From now) (From s.event.1) (λ e from. omega (arith, low, from)) new.0 after) h.steps h.none_before) after;
+        past = All-push (λ (s : Step). s.event.1 ≤ now) h.steps step past (omega arith);
+        waiting = all_from now step.changes this.left new.0 this.changed later (all_left (From now) mid.0 this.left step.event this.taken waiting);
       }

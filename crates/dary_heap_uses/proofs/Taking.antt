@@ -1,20 +1,16 @@
 -- Timers that are taken one after another, and the first of two by two numbers.
-use Rattle.dary_heap_uses.proofs.Common.{All, All-contains, All-mapped, All-nil, All-permutation, All-push, All-tail, All-weaker, AllPairs, Contains-map, Equal, Greater, IsBefore, IsFirst, IsGreatest}
-use Rattle.dary_heap_uses.proofs.Common.{IsPermutation-pop_more, IsPermutation-refl, IsSameBag, List, MatchOption, None, Option, Ordering, Some, [], all_pairs_push, ap, append-nil, append_assoc}
-use Rattle.dary_heap_uses.proofs.Common.{arith, by_item, cases_eq, flip_args, get_or, inl, inr, map, named, nat_cmp, nat_cmp_is, nat_le_from_cmp, nat_le_from_first, option_map, ordering_then}
-use Rattle.dary_heap_uses.proofs.Common.{pop_bound, pops_bound, refl, subst, suc, sym, ℕ, ◌++◌, ◌+◌, ◌<◌, ◌∙◌, ◌∷◌, ◌≡◌, ◌≢◌, ◌≤◌, ◌⊎◌}
+use Rattle.dary_heap_uses.proofs.Common.{All, All-contains, All-mapped, All-nil, All-permutation, All-push, All-tail, AllPairs, AreDistinct, AreDistinct-map, Contains-map, Gets, Gets-all, Gets-map}
+use Rattle.dary_heap_uses.proofs.Common.{Greater, InsertsWithin, InsertsWithin-map, IsAbsent, IsAbsent-map, IsBefore, IsFirst, IsGreatest, IsPermutation-map, IsPermutation-pop_more}
+use Rattle.dary_heap_uses.proofs.Common.{IsPermutation-refl, IsSameBag, List, Option, Ordering, [], all_pairs_push, ap, append-nil, append_assoc, arith, by_item, flip_args, get_or, item_of}
+use Rattle.dary_heap_uses.proofs.Common.{item_of-map, length-map, map, named, nat_cmp, option_map, ordering_then, refl, sym, ℕ, ◌++◌, ◌<◌, ◌∙◌, ◌∷◌, ◌≡◌, ◌≢◌, ◌≤◌, ◌⊎◌}
 
 -- one of two that isn't greater comes before the other, by the first number or by the second
 pub comes_before : (a b c d : ℕ) → ordering_then (nat_cmp a b) (nat_cmp c d) ≢ Greater → (a < b) ⊎ ((a ≡ b) × (c ≤ d))
-comes_before a b c d h = elim (cases_eq a b) [
-  | inl is ↦ inr (is, nat_le_from_cmp c d (rw (sym (nat_cmp_is a b Equal is)) at h))
-  | inr apart ↦ inl (omega (arith, nat_le_from_first a b _ h, apart))
-]
+comes_before a b c d h = grind arith
 
 -- then its moment is no later
 pub before_up : (a b : ℕ × ℕ) → IsBefore a b → a.1 ≤ b.1
-before_up a b (inl less) = omega arith
-before_up a b (inr same) = omega (arith, same.0)
+before_up a b h = grind arith
 
 -- how the queue's judge compares, and that each entry has its name
 abbrev pub by_moment : ℕ × ℕ → ℕ × ℕ → Ordering
@@ -27,19 +23,17 @@ HasItsName entry = entry.1.1 ≡ entry.0
 pub first_of : (entries : List (ℕ × (ℕ × ℕ))) (entry : ℕ × (ℕ × ℕ)) → All HasItsName entries → IsGreatest (by_item by_moment) entries entry → IsFirst (map named entries) (named entry)
 first_of entries entry names greatest = record {
   is_set = Contains-map named entries entry greatest.occurs;
-  before = All-mapped (IsBefore (named entry)) named entries (λ other in'.
-      rw (← All-contains HasItsName entries entry names greatest.occurs, ← All-contains HasItsName entries other names in')
-      (comes_before entry.1.0 other.1.0 entry.1.1 other.1.1 (greatest.none_above other in')));
+  before = All-mapped (IsBefore (named entry)) named entries (λ other in'. grind (
+    arith,
+    greatest.none_above other in',
+    All-contains HasItsName entries entry names greatest.occurs,
+    All-contains HasItsName entries other names in',
+  ));
 }
 
--- what `map` returns, if its closure computes f
-pub mapped : {X Y : Type 0} (f : X → Y) (o : Option X) (r : Option Y) {P : X → Type 0} → MatchOption o (r ≡ None) P → ((x : X) → P x → r ≡ Some (f x)) → r ≡ option_map f o
-mapped f None r none some = none
-mapped f (Some x) r none some = some x none
-
--- the pops of n items are one and those of what it leaves
-pub pops_more : (D : ℕ) {n m : ℕ} → suc m ≡ n → pops_bound D n ≡ pop_bound D n + pops_bound D m
-pops_more D {n} {m} one = subst (λ (k : ℕ). pops_bound D k ≡ pop_bound D k + pops_bound D m) one refl
+-- what holds of each item holds of those that are left once one was taken
+pub all_left : {X : Type 0} (P : X → Type 0) (old new : List X) (x : X) → IsSameBag old (x ∷ new) → All P old → All P new
+all_left P old new x bag all = All-tail P x new (All-permutation P old (x ∷ new) bag all)
 
 -- some timers that are due were taken, and none that is left comes before one of them
 pub record IsTaking (now : ℕ) (set left before after : List (ℕ × ℕ)) : Type 0 where
@@ -60,19 +54,39 @@ none_taken now set before = record {
   none_before = All-nil (λ (t : ℕ × ℕ). All (IsBefore t) set);
 }
 
-module _ {now : ℕ} {set left before after : List (ℕ × ℕ)} (h : IsTaking now set left before after) (timer : ℕ × ℕ) (rest more : List (ℕ × ℕ)) (first : IsFirst left timer) (due : timer.1 ≤ now)
-    (bag : IsSameBag left (timer ∷ rest)) (is : more ≡ after ++ timer ∷ []) where
-  -- what none that was left came before, none comes before that is left once one was taken
-  still : (t : ℕ × ℕ) → All (IsBefore t) left → All (IsBefore t) rest
-  still t all = All-tail (IsBefore t) timer rest (All-permutation (IsBefore t) left (timer ∷ rest) bag all)
+pub one_taken : {now : ℕ} {set left before after : List (ℕ × ℕ)} → IsTaking now set left before after → (timer : ℕ × ℕ) (rest : List (ℕ × ℕ)) → IsFirst left timer → timer.1 ≤ now →
+    IsSameBag left (timer ∷ rest) → IsTaking now set rest before (after ++ timer ∷ [])
+one_taken {now} {set} {left} {before} {after} h timer rest first due bag = record {
+  taken = h.taken ++ timer ∷ [];
+  added = ap (λ xs. xs ++ timer ∷ []) h.added ∙ append_assoc before h.taken (timer ∷ []);
+  none_lost = IsPermutation-pop_more set h.taken left rest timer h.none_lost bag;
+  in_order = all_pairs_push IsBefore h.taken timer h.in_order (λ k d within. All-contains (IsBefore (get_or h.taken k d)) left timer (h.none_before k d within) first.is_set);
+  none_early = All-push (λ (t : ℕ × ℕ). t.1 ≤ now) h.taken timer h.none_early due;
+  none_before = λ k d within. all_left (IsBefore (get_or (h.taken ++ timer ∷ []) k d)) left rest timer bag
+      (All-push (λ (t : ℕ × ℕ). All (IsBefore t) left) h.taken timer h.none_before first.before k d within);
+}
 
-  pub IsTaking-more : IsTaking now set rest before more
-  IsTaking-more = record {
-    taken = h.taken ++ timer ∷ [];
-    added = is ∙ (ap (λ xs. xs ++ timer ∷ []) h.added ∙ append_assoc before h.taken (timer ∷ []));
-    none_lost = IsPermutation-pop_more set h.taken left rest timer h.none_lost bag;
-    in_order = all_pairs_push IsBefore h.taken timer h.in_order (λ k d within. All-contains (IsBefore (get_or h.taken k d)) left timer (h.none_before k d within) first.is_set);
-    none_early = All-push (λ (t : ℕ × ℕ). t.1 ≤ now) h.taken timer h.none_early due;
-    none_before = All-push (λ (t : ℕ × ℕ). All (IsBefore t) rest) h.taken timer
-        (All-weaker (λ (t : ℕ × ℕ). All (IsBefore t) left) (λ (t : ℕ × ℕ). All (IsBefore t) rest) still h.taken h.none_before) (still timer first.before);
-  }
+-- ---- what is said of the queue's entries, said of the timers. Where an entry came or went, the first part of a conclusion says nothing: it shows `grind` the fact to match
+
+module _ (name : ℕ) (entries : List (ℕ × (ℕ × ℕ))) where
+  pub distinct_named : AreDistinct entries → AreDistinct (map named entries)
+  distinct_named = AreDistinct-map (λ timer. timer.0) entries
+
+  pub moment_named : item_of name (map named entries) ≡ option_map (λ timer. timer.0) (item_of name entries)
+  moment_named = item_of-map (λ timer. timer.0) name entries
+
+  pub absent_named : IsAbsent name entries → IsAbsent name (map named entries)
+  absent_named = IsAbsent-map (λ timer. timer.0) name entries
+
+  pub inserts_named : (D before after : ℕ) → InsertsWithin D name entries before after → InsertsWithin D name (map named entries) before after
+  inserts_named D before after = InsertsWithin-map (λ timer. timer.0) D name before after entries
+
+module _ (old new : List (ℕ × (ℕ × ℕ))) (names : All HasItsName old) where
+  pub gets_named : (name moment : ℕ) (given : Option (ℕ × ℕ)) → Gets name (moment, name) old given new →
+      Gets name (moment, name) old given new × All HasItsName new × Gets name moment (map named old) (option_map (λ timer. timer.0) given) (map named new)
+  gets_named name moment given h = (h, Gets-all HasItsName name _ _ _ _ h refl names, Gets-map (λ timer. timer.0) name _ _ _ _ h)
+
+  pub taken_named : (entry : ℕ × (ℕ × ℕ)) → IsSameBag old (entry ∷ new) → IsSameBag old (entry ∷ new) × All HasItsName new × IsSameBag (map named old) (named entry ∷ map named new)
+  taken_named entry h = (h, all_left HasItsName old new entry h names, IsPermutation-map named old (entry ∷ new) h)
+
+pub ruleset when_changed = (absent_named, gets_named, inserts_named, length-map, taken_named)

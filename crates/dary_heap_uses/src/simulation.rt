@@ -76,6 +76,7 @@ pub struct Stopped {
 /// assert!(rt; run(&mut events, &mut Watch(alloc), 100, 10).is_ok_and(|count| count == 2));
 /// assert_eq!(rt; events.len(), 0);
 /// ```
+#[tactic(auto, using(crate::proofs::Running::none_handled))]
 pub fn run<const D: usize, H: Handler>(
     events: &mut TimerQueue<D>,
     handler: &mut H,

@@ -66,6 +66,7 @@ impl<const D: usize> TimerQueue<D> {
     }
 
     /// Returns the number of timers that are set.
+    #[tactic(auto, using(crate::proofs::Taking::distinct_named))]
     pub fn len(&self) -> usize
         ensures len { result ≡ length self.now.set }
         ensures once { AreDistinct self.now.set }
@@ -81,6 +82,7 @@ impl<const D: usize> TimerQueue<D> {
     }
 
     /// Returns the moment for which the timer of a name is set, or `None` if there is none.
+    #[tactic(auto, using(crate::proofs::Taking::moment_named))]
     pub fn moment_of(&self, name: usize) -> Option<u64>
         ensures { result ≡ item_of name self.now.set }
     {
@@ -111,6 +113,7 @@ impl<const D: usize> TimerQueue<D> {
     /// Fails if memory allocation fails, or if the name is `usize::MAX`. This happens only if the name has no timer,
     /// and all room is in use or the name is past the room for names. The timers stay as they are, and no comparison
     /// is made. For a name that has a timer it allocates no memory.
+    #[tactic(auto, using(crate::proofs::Taking::when_changed))]
     pub fn set(&mut self, name: usize, moment: u64) -> Result<Option<u64>, AllocError>
         ensures set { IfOk result (λ before. Gets name moment self.old.set before self.new.set) }
         ensures counted { OnOk result (InsertsWithin D name self.old.set self.old.comparisons
@@ -127,14 +130,15 @@ impl<const D: usize> TimerQueue<D> {
         ensures unchanged { OnErr result (self.new.set ≡ self.old.set) }
         ensures uncounted { OnErr result (self.new.comparisons ≡ self.old.comparisons) }
     {
-        match self.waiting.insert(name, (moment, name)) {
-            Ok(before) => Ok(before.map(|timer| timer.0)),
-            Err(_) => Err(AllocError),
-        }
+        let Ok(before) = self.waiting.insert(name, (moment, name)) else {
+            return Err(AllocError);
+        };
+        Ok(before.map(|timer| timer.0))
     }
 
     /// Cancels the timer of a name, and returns the moment for which it was set, or `None` if there is none. It
     /// makes at most as many comparisons as a pop of the timers that are set.
+    #[tactic(auto, using(crate::proofs::Taking::when_changed))]
     pub fn cancel(&mut self, name: usize) -> Option<u64>
         ensures cancelled { Loses name self.old.set result self.new.set }
         ensures gone { IsAbsent name self.new.set }
@@ -144,11 +148,13 @@ impl<const D: usize> TimerQueue<D> {
         ensures names { self.new.names ≡ self.old.names }
         ensures unchanged { IfNone result (self.new ≡ self.old) }
     {
-        self.waiting.remove(name).map(|timer| timer.0)
+        let timer = self.waiting.remove(name)?;
+        Some(timer.0)
     }
 
     /// Removes the first timer and returns its name and its moment if that has come, and otherwise returns `None`.
     /// It makes at most as many comparisons as a pop of the timers that are set.
+    #[tactic(auto, using(crate::proofs::Taking::taken_named))]
     pub fn take_next(&mut self, now: u64) -> Option<(usize, u64)>
         ensures first { IfSome result (IsFirst self.old.set) }
         ensures due { IfSome result (λ timer. timer.1 ≤ now) }

@@ -1,4 +1,4 @@
-use Rattle.dary_heap_uses.proofs.{IsTaking, length, pops_bound, vec_capacity, vec_len, ◌+◌, ◌≡◌, ◌≤◌}
+use Rattle.dary_heap_uses.proofs.{IsTaking, length, pops_bound, vec_capacity, vec_len, ◌+◌, ◌-◌, ◌≡◌, ◌≤◌}
 use Rattle.dary_heap_uses.proofs.timers.TimerQueue.take_due.Given as goal
 
 -- what was taken so far, room for the others, and what the pops cost
@@ -12,4 +12,4 @@ invariant-loop-timer g l = record {
 }
 
 abbrev pub decreases-loop-timer : goal.decreases-loop-timer
-decreases-loop-timer g l = length l.self.set
+decreases-loop-timer g l = vec_capacity l.due - vec_len l.due
