@@ -13,7 +13,7 @@ pub use Rattle.dary_heap.proofs.Common.{◌∙◌, ◌∷◌, ◌≡◌, ◌≢�
 pub use Rattle.dary_heap.proofs.Depth.{depth-later, depth-parent, times_depth-later}
 pub use Rattle.dary_heap.specs.PeekMut.{is_written, lender}
 pub use Rattle.indexed_heap.proofs.Callers.{AreDistinct-map, Gets-all, Gets-given, Gets-map, InsertsWithin-map, IsAbsent-map, IsEntry-map, Loses-all, item_of-absent, item_of-map}
-pub use Rattle.indexed_heap.specs.Entries.{AreDistinct, Gets, InsertsWithin, IsAbsent, by_item, entries_of, item_of}
+pub use Rattle.indexed_heap.specs.Entries.{AreDistinct, Gets, IsAbsent, by_item, entries_of, item_of}
 pub use Rattle.dary_heap_uses.specs.FromStd.{Falls}
 pub use Rattle.dary_heap_uses.specs.Keeping.{KeepsGreatest, values}
 pub use Rattle.dary_heap_uses.specs.Merging.{heads_of, listed}

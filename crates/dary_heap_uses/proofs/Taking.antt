@@ -1,8 +1,8 @@
 -- Timers that are taken one after another, and the first of two by two numbers.
 use Rattle.dary_heap_uses.proofs.Common.{All, All-contains, All-mapped, All-nil, All-permutation, All-push, All-tail, AllPairs, AreDistinct, AreDistinct-map, Contains-map, Gets, Gets-all, Gets-map}
-use Rattle.dary_heap_uses.proofs.Common.{Greater, InsertsWithin, InsertsWithin-map, IsAbsent, IsAbsent-map, IsBefore, IsFirst, IsGreatest, IsPermutation-map, IsPermutation-pop_more}
-use Rattle.dary_heap_uses.proofs.Common.{IsPermutation-refl, IsSameBag, List, Option, Ordering, [], all_pairs_push, ap, append-nil, append_assoc, arith, by_item, flip_args, get_or, item_of}
-use Rattle.dary_heap_uses.proofs.Common.{item_of-map, length-map, map, named, nat_cmp, option_map, ordering_then, refl, sym, ℕ, ◌++◌, ◌<◌, ◌∙◌, ◌∷◌, ◌≡◌, ◌≢◌, ◌≤◌, ◌⊎◌}
+use Rattle.dary_heap_uses.proofs.Common.{Greater, IsAbsent, IsAbsent-map, IsBefore, IsFirst, IsGreatest, IsPermutation-map, IsPermutation-pop_more, IsPermutation-refl, IsSameBag, List, Option}
+use Rattle.dary_heap_uses.proofs.Common.{Ordering, [], all_pairs_push, ap, append-nil, append_assoc, arith, by_item, flip_args, get_or, item_of, item_of-map, length-map, map, named, nat_cmp}
+use Rattle.dary_heap_uses.proofs.Common.{option_map, ordering_then, refl, sym, ℕ, ◌++◌, ◌<◌, ◌∙◌, ◌∷◌, ◌≡◌, ◌≢◌, ◌≤◌, ◌⊎◌}
 
 -- one of two that isn't greater comes before the other, by the first number or by the second
 pub comes_before : (a b c d : ℕ) → ordering_then (nat_cmp a b) (nat_cmp c d) ≢ Greater → (a < b) ⊎ ((a ≡ b) × (c ≤ d))
@@ -23,12 +23,7 @@ HasItsName entry = entry.1.1 ≡ entry.0
 pub first_of : (entries : List (ℕ × (ℕ × ℕ))) (entry : ℕ × (ℕ × ℕ)) → All HasItsName entries → IsGreatest (by_item by_moment) entries entry → IsFirst (map named entries) (named entry)
 first_of entries entry names greatest = record {
   is_set = Contains-map named entries entry greatest.occurs;
-  before = All-mapped (IsBefore (named entry)) named entries (λ other in'. grind (
-    arith,
-    greatest.none_above other in',
-    All-contains HasItsName entries entry names greatest.occurs,
-    All-contains HasItsName entries other names in',
-  ));
+  before = All-mapped (IsBefore (named entry)) named entries (λ other in'. grind (arith, greatest.none_above other in'));
 }
 
 -- what holds of each item holds of those that are left once one was taken
@@ -78,9 +73,6 @@ module _ (name : ℕ) (entries : List (ℕ × (ℕ × ℕ))) where
   pub absent_named : IsAbsent name entries → IsAbsent name (map named entries)
   absent_named = IsAbsent-map (λ timer. timer.0) name entries
 
-  pub inserts_named : (D before after : ℕ) → InsertsWithin D name entries before after → InsertsWithin D name (map named entries) before after
-  inserts_named D before after = InsertsWithin-map (λ timer. timer.0) D name before after entries
-
 module _ (old new : List (ℕ × (ℕ × ℕ))) (names : All HasItsName old) where
   pub gets_named : (name moment : ℕ) (given : Option (ℕ × ℕ)) → Gets name (moment, name) old given new →
       Gets name (moment, name) old given new × All HasItsName new × Gets name moment (map named old) (option_map (λ timer. timer.0) given) (map named new)
@@ -89,4 +81,4 @@ module _ (old new : List (ℕ × (ℕ × ℕ))) (names : All HasItsName old) whe
   pub taken_named : (entry : ℕ × (ℕ × ℕ)) → IsSameBag old (entry ∷ new) → IsSameBag old (entry ∷ new) × All HasItsName new × IsSameBag (map named old) (named entry ∷ map named new)
   taken_named entry h = (h, all_left HasItsName old new entry h names, IsPermutation-map named old (entry ∷ new) h)
 
-pub ruleset when_changed = (absent_named, gets_named, inserts_named, length-map, taken_named)
+pub ruleset when_set = (absent_named, gets_named, length-map)

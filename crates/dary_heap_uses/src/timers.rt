@@ -113,7 +113,7 @@ impl<const D: usize> TimerQueue<D> {
     /// Fails if memory allocation fails, or if the name is `usize::MAX`. This happens only if the name has no timer,
     /// and all room is in use or the name is past the room for names. The timers stay as they are, and no comparison
     /// is made. For a name that has a timer it allocates no memory.
-    #[tactic(auto, using(crate::proofs::Taking::when_changed))]
+    #[tactic(auto, using(crate::proofs::Taking::when_set))]
     pub fn set(&mut self, name: usize, moment: u64) -> Result<Option<u64>, AllocError>
         ensures set { IfOk result (λ before. Gets name moment self.old.set before self.new.set) }
         ensures counted { OnOk result (InsertsWithin D name self.old.set self.old.comparisons
@@ -138,7 +138,7 @@ impl<const D: usize> TimerQueue<D> {
 
     /// Cancels the timer of a name, and returns the moment for which it was set, or `None` if there is none. It
     /// makes at most as many comparisons as a pop of the timers that are set.
-    #[tactic(auto, using(crate::proofs::Taking::when_changed))]
+    #[tactic(auto, using(crate::proofs::Taking::absent_named, crate::proofs::Taking::taken_named))]
     pub fn cancel(&mut self, name: usize) -> Option<u64>
         ensures cancelled { Loses name self.old.set result self.new.set }
         ensures gone { IsAbsent name self.new.set }
@@ -148,8 +148,8 @@ impl<const D: usize> TimerQueue<D> {
         ensures names { self.new.names ≡ self.old.names }
         ensures unchanged { IfNone result (self.new ≡ self.old) }
     {
-        let timer = self.waiting.remove(name)?;
-        Some(timer.0)
+        let cancelled = self.waiting.remove(name)?;
+        Some(cancelled.0)
     }
 
     /// Removes the first timer and returns its name and its moment if that has come, and otherwise returns `None`.
