@@ -1,7 +1,7 @@
 //! The places of a slice, reached by a pointer: all that the crate does with pointers.
 //!
 //! A sift takes an item out of its place, which is a [`Hole`] then, moves other items into the hole, one
-//! after another, and fills it with the item at the end. [`Places`] and [`Hole`] have four small functions
+//! after another, and fills it with the item at the end. [`Places`] and [`Hole`] have five small functions
 //! for that, and [`with_places`] lends the places of a slice.
 ghost use Rattle.std.specs.Prelude.{◌≡◌};
 ghost use Rattle.std.specs.Borrow.{MutBor};

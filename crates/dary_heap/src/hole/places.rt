@@ -74,6 +74,22 @@ impl<T> Hole<T> {
             → self.new.items ≡ slice_set self.old.items at (slice_index_or self.old.items place x) }
         ensures at { self.new.at ≡ place }
     {
+        self.move_or_stay(place, at, place);
+    }
+
+    /// Copies the item at another place into the hole, which is at `at`. The hole is at `to` then: the item has moved if
+    /// that is its place, and nothing has changed if it is `at`. So no branch is needed where `to` is a choice.
+    #[inline(always)]
+    pub(crate) fn move_or_stay(&mut self, place: usize, at: usize, to: usize)
+        requires here { at ≡ self.old.at }
+        requires other { (place < length self.old.items) × (place ≢ at) }
+        requires either { to ≢ at → to ≡ place }
+        ensures slice { self.new.ptr ≡ self.old.ptr }
+        ensures at { self.new.at ≡ to }
+        ensures stays { to ≡ at → self.new.items ≡ self.old.items }
+        ensures moves { (x : T) → to ≡ place
+            → self.new.items ≡ slice_set self.old.items at (slice_index_or self.old.items place x) }
+    {
         unsafe { self.ptr.add(at).write(self.ptr.add(place).read()) }
     }
 
