@@ -1,7 +1,7 @@
-//! Links the static library `dary_heap_bench`, which `rt lib` leaves in `out/` of its crate, and the
-//! toolchain's C part, through which it takes memory. `DARY_HEAP_BENCH` and `RATTLE_C` name the folders
-//! where the two lie. The program `keyed` gets the library `indexed_heap_bench` too, for which `INDEXED_HEAP_BENCH`
-//! names another folder.
+//! Links the static library `dary_heap_bench`, which the command `libraries` here leaves in `target/libraries`, and the
+//! toolchain's C part, through which it takes memory. `DARY_HEAP_BENCH` names another folder of the first, and
+//! `RATTLE_C` that of the second. The program `keyed` gets the library `indexed_heap_bench` too, for which
+//! `INDEXED_HEAP_BENCH` names another folder.
 //!
 //! The files of C++ are compiled if there is a compiler: `c++`, or the one that `CXX` names. `CXXSTDLIB` names its
 //! library if that isn't the usual one. `SHIFT` moves the program's code, as README.md says.
@@ -14,17 +14,15 @@ fn main() {
     let Some(toolchain) = said("RATTLE_C") else {
         fail("RATTLE_C has to name the folder with the toolchain's C part, see README.md");
     };
-    let beside = concat!(env!("CARGO_MANIFEST_DIR"), "/../crates");
-    let library =
-        said("DARY_HEAP_BENCH").unwrap_or_else(|| format!("{beside}/dary_heap_bench/out"));
+    let built = concat!(env!("CARGO_MANIFEST_DIR"), "/target/libraries");
+    let library = said("DARY_HEAP_BENCH").unwrap_or_else(|| String::from(built));
     link(&library, "dary_heap_bench");
     link(&toolchain, "libc_c");
     println!("cargo:rustc-check-cfg=cfg(has_cpp)");
     let cpp = compile("src/rivals.cpp", "rivals.o");
     pass("", &cpp);
     // The program `keyed` alone gets these. If there is no such library, the linker says so.
-    let keyed =
-        said("INDEXED_HEAP_BENCH").unwrap_or_else(|| format!("{beside}/indexed_heap_bench/out"));
+    let keyed = said("INDEXED_HEAP_BENCH").unwrap_or_else(|| String::from(built));
     let keyed = format!("{keyed}/libindexed_heap_bench.a");
     println!("cargo:rerun-if-changed={keyed}");
     pass("-bin=keyed", &[keyed, format!("{toolchain}/liblibc_c.a")]);

@@ -7,7 +7,7 @@ pub use Rattle.std.proofs.Common.{All, Bool, Contains, Err, IfNone, IfSome, IsPe
 pub use Rattle.std.proofs.Common.{arith, drop, false, get_or, get_or-set_other, get_or-set_same, if◌then◌else◌, inl, inr, is_some, le_refl, length, length-append, length-set, length-take, lit<, map}
 pub use Rattle.std.proofs.Common.{min, nat_eq, nat_lt, refl, replicate, rules, set, slice_get, slice_set, subst, suc, sum, sym, take, true, vec_capacity, vec_len, zero, zero-le, ℕ, ◌*◌, ◌++◌, ◌+◌}
 pub use Rattle.std.proofs.Common.{◌-◌, ◌/◌, ◌<◌, ◌^◌, ◌↔◌, ◌∙◌, ◌∷◌, ◌≡◌, ◌≢◌, ◌≤◌, ◌⊎◌}
-pub use Rattle.std.proofs.Math.Nat.{div-le_self, div-mul-le_self, lt-div-mul-add, mul-le-mul_left, mul-le-mul_right, pow-succ'}
+pub use Rattle.std.proofs.Math.Nat.{div-le_self, div-mul-le_self, lt-div-mul-add, mul-le-mul, mul-le-mul_left, mul-le-mul_right, pow-succ'}
 pub use Rattle.std.proofs.iter.Next.{Gave-then, Ran, Yields-more, again, begun, drained, if_no, if_yes, less, said}
 pub use Rattle.std.proofs.lemmas.Bool.{cases_eq, cases_lt, ne_eqb, true≢false}
 pub use Rattle.std.proofs.lemmas.Bool.Decides.{nat_tests}
@@ -36,9 +36,9 @@ pub use Rattle.std.specs.Vec.Iter.{into_iter_items, into_iter_len}
 pub use Rattle.std.specs.declared.alloc.Global.{Global}
 pub use Rattle.std.specs.declared.cmp.Ordering.{Ordering}
 pub use Rattle.std.specs.declared.cmp.Ordering.TheVariants.{Equal, Greater, Less}
-pub use Rattle.dary_heap.specs.Asking.{IsCallableOn, TakesInTurn, items_in, predicates_in, written}
+pub use Rattle.dary_heap.specs.Asking.{IsCallableOn, IsCallableOnce, MayCall, TakesInTurn, items_in, written}
 pub use Rattle.dary_heap.specs.Bag.{IsGreatest, IsGreatest-same_bag, IsSameBag}
-pub use Rattle.dary_heap.specs.Bounds.{RisesWithin, build_bound, charge, fix_bound, mend_bound, pop_bound, pops_bound, push_bound, refreshes, sink_bound}
+pub use Rattle.dary_heap.specs.Bounds.{RisesWithin, build_bound, charge, fix_bound, mend_bound, pop_bound, pops_bound, push_bound, refreshes, search_bound, sink_bound}
 pub use Rattle.dary_heap.specs.sift.Choosing.{Chooses, FindsGreatestChild, HasChildrenFrom, IsAt, IsBelow, IsFirstChild, IsGreatestAt}
 pub use Rattle.dary_heap.specs.Contents.{Contents}
 pub use Rattle.dary_heap.specs.Drain.{drain_rest}
@@ -63,7 +63,7 @@ unfoldable pub use Rattle.dary_heap.specs.sift.Sifting.{sift_down_cost}
 pub use Rattle.dary_heap.specs.State.{IsJoined, IsSameState, IsState, front, front_with}
 pub use Rattle.dary_heap.specs.Tail.{IsWeight}
 pub use Rattle.dary_heap.specs.Walk.{Graph, HasCritical, HasEdge, IsLeastCost, IsUnreached, IsWalk, IsWithin, NoneCriticalBelow, cost_of}
-pub use Rattle.dary_heap.specs.declared.hole.places.Hole.{Hole}
+pub use Rattle.dary_heap.specs.declared.hole.pointers.Hole.{Hole}
 pub use Rattle.dary_heap.specs.declared.shortest_path.Edge.{Edge}
 pub use Rattle.dary_heap.specs.declared.shortest_path.State.{State}
 pub use Rattle.dary_heap.specs.declared.shortest_path.work.Work.{Work}

@@ -5,7 +5,9 @@ use Rattle.dary_heap.proofs.Order.{exchanges}
 use Rattle.std.proofs.lemmas.List.{same_lists}
 use Rattle.std.proofs.lemmas.Option.{unwrap_or-slice_get}
 use Rattle.std.specs.Option.{unwrap_or}
-use Rattle.dary_heap.specs.Path.{above, GoesUp, GoesUpBy, IsAbove, IsOnPath}
+use Rattle.dary_heap.proofs.Common.{IsPermutation, IsPermutation-refl, IsPermutation-sym, IsPermutation-trans}
+use Rattle.std.proofs.lemmas.List.Sorted.{IsPermutation-swap}
+use Rattle.dary_heap.specs.Path.{above, GoesTo, GoesUp, GoesUpBy, IsAbove, IsOnPath}
 
 -- an exchange and then the same one again
 pub swap_back : {X : Type 0} (xs : List X) (a b : ℕ) → a < length xs → b < length xs → swap (swap xs a b) b a ≡ xs
@@ -48,6 +50,33 @@ above-le D (suc n) (suc k) = omega (arith, above-le D n (parent D (suc k)), pare
 
 pub GoesUp-le : {X : Type 0} (D from to : ℕ) {old new : List X} → GoesUp D from to old new → to ≤ from
 GoesUp-le D from to {old = old} {new = new} goes = let up = GoesUpBy-above D goes.levels from to old new goes.way in omega (arith, above-le D up.levels from, up.there)
+
+-- the item comes to the place where it stops, and none is lost
+carried : {X : Type 0} (D n from to : ℕ) (old new : List X) → from < length old → GoesUpBy D n from to old new → (slice_get new to ≡ slice_get old from) × IsPermutation old new
+carried D zero from to old new inside way = (ap (λ l. slice_get l to) way.1 ∙ ap (slice_get old) (sym way.0), subst (IsPermutation old) (sym way.1) (IsPermutation-refl old))
+carried D (suc n) from to old new inside way =
+    let p = parent D from in
+    let below : p < from = parent-below D from way.0 in
+    let mid = swap old from p in
+    let e = exchanges old mid from p inside (omega (arith, inside)) refl in
+    let rest = carried D n p to mid new (omega (arith, inside, e.len)) way.1 in
+    (rest.0 ∙ e.second, IsPermutation-trans old mid new (IsPermutation-swap old mid from p inside (omega (arith, inside)) refl) rest.1)
+
+pub GoesUp-permutation : {X : Type 0} (D from to : ℕ) (old new : List X) → from < length old → GoesUp D from to old new → IsPermutation old new
+GoesUp-permutation D from to old new inside goes = (carried D goes.levels from to old new inside goes.way).1
+
+module _ {X : Type 0} (D from to : ℕ) (old new : List X) (inside : from < length old) (stops : to < length new) (goes : GoesTo D from to old new) where
+  pub GoesTo-carries : slice_get new to ≡ slice_get old from
+  GoesTo-carries = elim goes [
+    | inl up ↦ (carried D up.levels from to old new inside up.way).0
+    | inr down ↦ sym (carried D down.levels to from new old stops down.way).0
+  ]
+
+  pub GoesTo-permutation : IsPermutation old new
+  GoesTo-permutation = elim goes [
+    | inl up ↦ GoesUp-permutation D from to old new inside up
+    | inr down ↦ IsPermutation-sym new old (GoesUp-permutation D to from new old stops down)
+  ]
 
 -- what isn't on the path stays where it is
 stands : {X : Type 0} (D n from to : ℕ) (old new : List X) → from < length old → GoesUpBy D n from to old new → (i : ℕ) → IsOnPath D from to i ⊎ (slice_get new i ≡ slice_get old i)

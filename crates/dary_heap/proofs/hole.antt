@@ -1,8 +1,8 @@
--- The lemmas of the module `hole`, passed on from one place.
+-- The lemmas of the module `hole`, from one place.
 pub mod Holes
-pub mod PlacesOwned
+pub mod SlotsOwned
 pub mod Walks
 pub mod WalksAt
 pub use Holes.*
-pub use PlacesOwned.*
+pub use SlotsOwned.*
 pub use Walks.*

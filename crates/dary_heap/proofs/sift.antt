@@ -2,6 +2,8 @@
 pub mod Choosing
 pub mod Cost
 pub mod Parts
+pub mod Raising
+pub mod Removing
 pub mod Sifting
 pub mod Sorting
 pub mod Tail
@@ -9,6 +11,8 @@ pub mod Written
 pub use Choosing.*
 pub use Cost.*
 pub use Parts.*
+pub use Raising.*
+pub use Removing.*
 pub use Sifting.*
 pub use Sorting.*
 pub use Tail.*

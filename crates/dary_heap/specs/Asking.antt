@@ -1,5 +1,5 @@
 -- The precondition of a run: its predicates may be called on the items that come up in it.
-use Rattle.std.specs.Prelude.{Bool, List, [], ◌∷◌, ◌++◌, Contains}
+use Rattle.std.specs.Prelude.{◌≡◌, Bool, List, [], ◌∷◌, ◌++◌, Contains}
 use Rattle.std.specs.Fn.{Mut, TakesAt, CalledAt}
 use denote.Ref.{Bor}
 use Rattle.dary_heap.specs.Machine.{Act, Write, Refresh, Command, Push, PopIf, Ask, Retain, Extend, Append, Loan}
@@ -13,6 +13,16 @@ module _ {T P : Type 0} (calls : Mut P (Bor T × Unit {0}) Bool) where
   -- p may be called on every one of these items, in any order and any number of times
   pub record IsCallableOn (items : List T) (p : P) : Type 0 where
     pub in_turn : (xs : List T) → ((x : T) → Contains xs x → Contains items x) → TakesInTurn p xs
+
+  -- p may be called once, on any of these items
+  abbrev pub IsCallableOnce : List T → P → Type 0
+  IsCallableOnce items p = (x : T) → Contains items x → TakesAt calls p x
+
+  -- the predicate of a command, if it has one, may be called on these items: that of `PopIf` or `Ask` once, so that there is no right to a second call
+  pub record MayCall (items : List T) (command : Command T P) : Type 0 where
+    pub pop_if : (p : P) → command ≡ PopIf p → IsCallableOnce items p
+    pub ask : (p : P) → command ≡ Ask p → IsCallableOnce items p
+    pub retain : (p : P) → command ≡ Retain p → IsCallableOn items p
 
 -- the items that acts on a loan hold
 abbrev pub written : {T : Type 0} → List (Act T) → List T
@@ -28,11 +38,3 @@ items_in (Extend xs ∷ commands) = xs ++ items_in commands
 items_in (Append other ∷ commands) = other ++ items_in commands
 items_in (Loan acts end ∷ commands) = written acts ++ items_in commands
 items_in (command ∷ commands) = items_in commands
-
--- the predicates that commands hold
-abbrev pub predicates_in : {T P : Type 0} → List (Command T P) → List P
-predicates_in [] = []
-predicates_in (PopIf p ∷ commands) = p ∷ predicates_in commands
-predicates_in (Ask p ∷ commands) = p ∷ predicates_in commands
-predicates_in (Retain p ∷ commands) = p ∷ predicates_in commands
-predicates_in (command ∷ commands) = predicates_in commands

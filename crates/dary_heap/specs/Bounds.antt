@@ -32,6 +32,10 @@ mend_bound D n k = if k == 0 then 0 else max (build_bound D n) (k * depth D (n -
 abbrev pub fix_bound : ℕ → ℕ → ℕ → ℕ
 fix_bound D n place = depth D place + arity D * (depth D (n - 1) - depth D place)
 
+-- a search for a walk that examines so many edges: a push and a pop of the start and of one state for each edge
+abbrev pub search_bound : ℕ → ℕ → ℕ
+search_bound D edges = (edges + 1) * (push_bound D edges + pop_bound D (edges + 1))
+
 -- popping n items until none is left
 abbrev pub pops_bound : ℕ → ℕ → ℕ
 pops_bound D zero = 0

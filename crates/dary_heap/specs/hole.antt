@@ -1,3 +1,3 @@
 -- What a slice and a hole in it are to the clauses of the modules `hole` and `sift`.
 pub mod Hole
-pub mod Places
+pub mod Slots

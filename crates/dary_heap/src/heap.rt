@@ -21,6 +21,7 @@ mod convert;
 mod filter;
 mod join;
 mod place;
+mod returning_place;
 
 /// A priority queue. [`pop`](DaryHeap::pop) returns a greatest item: one that no other is strictly greater than.
 ///

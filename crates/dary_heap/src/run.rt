@@ -6,7 +6,7 @@
 //! other exceeds: a question is about the front, and a pop returns it.
 ghost use Rattle.std.specs.Prelude.{◌≡◌, ◌++◌, ◌∷◌, [], length, slice_get, All, Bool, Some, None, IfOk, IfErr, IsOk};
 ghost use Rattle.std.specs.Fn.{CalledAt, FnOnceTakesAt, FnOnceReturnsAt};
-ghost use Rattle.dary_heap.specs.Asking.{IsCallableOn, items_in, predicates_in};
+ghost use Rattle.dary_heap.specs.Asking.{MayCall, items_in};
 ghost use Rattle.dary_heap.specs.HeapOrder.{IsHeapOrdered};
 ghost use Rattle.dary_heap.specs.Machine as machine;
 ghost use Rattle.dary_heap.specs.Reading as read;
@@ -52,9 +52,10 @@ pub enum Command<T: Ord, const D: usize, P> {
     Push(T),
     /// Removes a greatest item.
     Pop,
-    /// Removes a greatest item, the one that a pop would remove, if the predicate returns `true` for it.
+    /// Removes a greatest item, the one that a pop would remove, if the predicate returns `true` for it. It is called
+    /// once at most.
     PopIf(P),
-    /// Asks the predicate about a greatest item, the one that a pop would remove.
+    /// Asks the predicate once about a greatest item, the one that a pop would remove.
     Ask(P),
     /// Counts the items.
     Len,
@@ -117,7 +118,9 @@ pub enum Reply<T: Ord, const D: usize> {
 ///
 /// # Preconditions
 ///
-/// - Each predicate may be called on the items that the heap and the commands hold.
+/// - The predicate of a [`Command::Ask`] or a [`Command::PopIf`] may be called once, on any item that the heap or
+///   the commands hold, and that of a [`Command::Retain`] on each of them, in any order. `run` calls the former no
+///   second time.
 ///
 /// # Errors
 ///
@@ -158,8 +161,8 @@ pub fn run<T: Ord + Drop, const D: usize, P: FnMut(&T) -> bool>(
     heap: &mut DaryHeap<T, D>,
     commands: Vec<Command<T, D, P>>,
 ) -> Result<Vec<Reply<T, D>>, Vec<Command<T, D, P>>>
-    requires { All (IsCallableOn P.FnMut (heap.old.items ++ items_in
-        (read.commands commands.items))) (predicates_in (read.commands commands.items)) }
+    requires { All (MayCall P.FnMut (heap.old.items ++ items_in (read.commands commands.items)))
+        (read.commands commands.items) }
 
     // The replies and the items are a run of the bag machine, within its charges.
     ensures runs { IfOk result (λ replies. Runs T.cmp (CalledAt P.FnMut) D heap.old
@@ -206,8 +209,7 @@ fn serve<T: Ord + Drop, const D: usize, P: FnMut(&T) -> bool>(
     heap: &mut DaryHeap<T, D>,
     command: Command<T, D, P>,
 ) -> Reply<T, D>
-    requires { All (IsCallableOn P.FnMut heap.old.items)
-        (predicates_in (read.command command ∷ [])) }
+    requires { MayCall P.FnMut heap.old.items (read.command command) }
     ensures { Serves T.cmp (CalledAt P.FnMut) D heap.old (read.command command)
         (read.reply result) heap.new }
 {

@@ -2,20 +2,22 @@
 //!
 //! [`shortest_path`] is the search that the documentation of heaps gives as its example. Its
 //! contract speaks of walks and of what they cost, by the words of `specs/Walk.antt`, which know
-//! nothing of a search. It stands on `new`, `push` and `pop` of the heap alone.
+//! nothing of a search. It stands on `new`, `clear`, `push` and `pop` of the heap alone.
+//! [`shortest_path_with`] is the same over a heap that the caller gives.
 ghost use Rattle.std.proofs.Common.{rules};
 ghost use Rattle.std.specs.Cmp.{partial_order_from_own_ties};
 ghost use Rattle.std.specs.Cmp.Rules.{comparing};
 ghost use Rattle.std.specs.Ordering.{as_partial_cmp};
-ghost use Rattle.std.specs.Prelude.{◌≡◌, ◌+◌, ◌*◌, ◌<◌, ◌≤◌, [], ◌∷◌, ◌++◌, IfOk, IfErr, OnOk, IfSome, IfNone, All, length};
+ghost use Rattle.std.specs.Prelude.{◌≡◌, ◌+◌, ◌<◌, ◌≤◌, [], ◌∷◌, ◌++◌, IfOk, IfErr, OnOk, IfSome, IfNone, All, length};
 ghost use Rattle.std.specs.List.{sum_by};
-ghost use Rattle.dary_heap.specs.Bounds.{RisesWithin, push_bound, pop_bound};
+ghost use Rattle.dary_heap.specs.Bounds.{RisesWithin, search_bound};
 ghost use Rattle.dary_heap.specs.shortest_path.Searching.{state_cmp, Relaxes, HasTooLarge};
 ghost use Rattle.dary_heap.specs.shortest_path.Examining.{AreExamined, AreExaminedOnce, Pushes};
 ghost use Rattle.dary_heap.specs.Walk.{IsWithin, IsLeastCost, IsUnreached, HasCritical, NoneCriticalBelow};
 ghost use Rattle.dary_heap.specs.declared.shortest_path.PathRefusal.TheVariants.{NoMemory, CostTooLarge};
 
-use crate::heap::TernaryHeap;
+use crate::heap::{DaryHeap, TernaryHeap};
+use crate::sift::JudgesByOrd;
 use std::alloc::Global;
 use std::cmp::Ordering;
 use work::Work;
@@ -152,17 +154,69 @@ pub fn shortest_path(
         (λ refusal. refusal ≡ CostTooLarge → HasCritical usize.MAX adj_list.now.items start goal) }
 {
     let mut heap = TernaryHeap::new(alloc);
-    let mut work = Work::new();
-    search(alloc, adj_list, start, goal, &mut heap, &mut work)
+    shortest_path_with(alloc, adj_list, start, goal, &mut heap)
 }
 
-/// The search itself, with the states that wait in this heap, which is empty, and with an account of its work.
-fn search(
+/// The same search over a heap that the caller gives, of any arity: its judge counts the comparisons, and many searches
+/// can share its room. What it holds before doesn't matter.
+///
+/// # Preconditions
+///
+/// Those of [`shortest_path`].
+///
+/// # Errors
+///
+/// Those of [`shortest_path`].
+///
+/// # Examples
+///
+/// ```
+/// use dary_heap::DaryHeap;
+/// use dary_heap::shortest_path::{Edge, shortest_path_with};
+/// use dary_heap::sift::Tally;
+/// let from_0 = vec![in alloc; Edge { node: 1, cost: 7 }, Edge { node: 2, cost: 1 }]?;
+/// let from_2 = vec![in alloc; Edge { node: 1, cost: 3 }]?;
+/// let graph = vec![in alloc; from_0, Vec::new(alloc), from_2]?;
+/// let mut heap = DaryHeap::<_, 4, _>::with_judge(alloc, Tally::new());
+/// heap.reserve(3)?;
+/// assert_eq!(rt; shortest_path_with(alloc, &graph, 0, 1, &mut heap), Ok(Some(4)));
+/// assert_eq!(rt; heap.judge().made(), 2);
+/// ```
+///
+/// # Time
+///
+/// That of [`shortest_path`], at the arity of the heap.
+pub fn shortest_path_with<const D: usize, J: JudgesByOrd<State>>(
     alloc: Global,
     adj_list: &Vec<Vec<Edge>>,
     start: usize,
     goal: usize,
-    heap: &mut TernaryHeap<State>,
+    heap: &mut DaryHeap<State, D, J>,
+) -> Result<Option<usize>, PathRefusal>
+    requires graph { IsWithin (length adj_list.now.items) adj_list.now.items }
+    requires start { start < length adj_list.now.items }
+    ensures least { IfOk result
+        (λ answer. IfSome answer (IsLeastCost adj_list.now.items start goal)) }
+    ensures unreached { IfOk result
+        (λ answer. IfNone answer (IsUnreached adj_list.now.items start goal)) }
+    ensures uncritical { OnOk result (NoneCriticalBelow usize.MAX adj_list.now.items start goal) }
+    ensures too_large { IfErr result
+        (λ refusal. refusal ≡ CostTooLarge → HasCritical usize.MAX adj_list.now.items start goal) }
+    ensures counted { RisesWithin heap.old.comparisons heap.new.comparisons
+        (search_bound D (sum_by (λ row. length row.items) adj_list.now.items)) }
+{
+    heap.clear();
+    let mut work = Work::new();
+    search(alloc, adj_list, start, goal, heap, &mut work)
+}
+
+/// The search itself, with the states that wait in this heap, which is empty, and with an account of its work.
+fn search<const D: usize, J: JudgesByOrd<State>>(
+    alloc: Global,
+    adj_list: &Vec<Vec<Edge>>,
+    start: usize,
+    goal: usize,
+    heap: &mut DaryHeap<State, D, J>,
     work: &mut Work,
 ) -> Result<Option<usize>, PathRefusal>
     requires graph { IsWithin (length adj_list.now.items) adj_list.now.items }
@@ -188,8 +242,7 @@ fn search(
     ensures pushed { work.new.pushes ≤ length work.new.examined + 1 }
     ensures few { length heap.new.items ≤ length work.new.examined + 1 }
     ensures counted { RisesWithin heap.old.comparisons heap.new.comparisons
-        ((length work.new.examined + 1)
-        * (push_bound 3 (length work.new.examined) + pop_bound 3 (length work.new.examined + 1))) }
+        (search_bound D (length work.new.examined)) }
 {
     // What a walk to each node was found to cost so far, and the greatest number if none was found.
     let Ok(mut found) = vec![in alloc; usize::MAX; adj_list.len()] else {
@@ -217,11 +270,11 @@ fn search(
 }
 
 /// Examines the edges of a node that is reached at a cost, in their order.
-fn relax(
+fn relax<const D: usize, J: JudgesByOrd<State>>(
     edges: &Vec<Edge>,
     cost: usize,
     found: &mut Vec<usize>,
-    heap: &mut TernaryHeap<State>,
+    heap: &mut DaryHeap<State, D, J>,
     work: &mut Work,
 ) -> Result<(), PathRefusal>
     requires { All (λ edge. edge.node < length found.old.items) edges.now.items }
@@ -231,7 +284,7 @@ fn relax(
         (λ refusal. refusal ≡ CostTooLarge → HasTooLarge usize.MAX cost edges.now.items) }
     ensures no_memory { IfErr result
         (λ refusal. refusal ≡ NoMemory → length heap.new.items ≡ heap.new.capacity) }
-    ensures once { AreExamined edges.now.items work.old.examined work.new.examined
+    ensures once { AreExamined D edges.now.items work.old.examined work.new.examined
         heap.old heap.new }
     ensures pushed { work.new.pushes + length work.old.examined
         ≤ work.old.pushes + length work.new.examined }
@@ -245,11 +298,11 @@ fn relax(
 
 /// Examines one edge of a node that is reached at a cost: if it leads to its end at less than was found,
 /// that is found from now on, and waits.
-fn examine(
+fn examine<const D: usize, J: JudgesByOrd<State>>(
     edge: Edge,
     cost: usize,
     found: &mut Vec<usize>,
-    heap: &mut TernaryHeap<State>,
+    heap: &mut DaryHeap<State, D, J>,
     work: &mut Work,
 ) -> Result<(), PathRefusal>
     requires { edge.node < length found.old.items }
@@ -261,7 +314,7 @@ fn examine(
         (λ refusal. refusal ≡ NoMemory → length heap.new.items ≡ heap.new.capacity) }
     ensures examined { work.new.examined ≡ work.old.examined ++ edge ∷ [] }
     ensures pushed { work.new.pushes ≤ work.old.pushes + 1 }
-    ensures pushes { Pushes 1 heap.old heap.new }
+    ensures pushes { Pushes D 1 heap.old heap.new }
 {
     work.add_edge(&edge);
     // Whether the sum reaches the greatest number, without forming it.

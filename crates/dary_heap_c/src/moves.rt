@@ -7,10 +7,11 @@ ghost use Rattle.std.specs.Prelude.{◌≡◌, ◌-◌, ◌<◌, ℕ, length, se
 ghost use Rattle.dary_heap.specs.Bag.{IsSameBag};
 ghost use Rattle.dary_heap.specs.Bounds.{RisesWithin, fix_bound, pop_bound, push_bound};
 ghost use Rattle.dary_heap.specs.HeapOrder.{IsHeapOrdered, IsHeapOrderedButAt};
+ghost use Rattle.dary_heap.specs.Path.{GoesUp};
 ghost use Rattle.dary_heap_c.specs.Places.{AreRight, AreRightOffPath, HaveKeys, IsFree, Rights};
 
 use crate::entry::Entry;
-use dary_heap::sift::{Judge, parent, sift_to_bottom_with, sift_up_with, sift_with};
+use dary_heap::sift::{Judge, fix_with, parent, sift_to_bottom_with, sift_up_with};
 
 /// Writes the place of the entry with a value, if the value has one.
 #[inline(always)]
@@ -53,6 +54,8 @@ pub fn push_keyed<J: Judge<Entry>, const D: usize>(
         → IsHeapOrdered J.order D entries.new }
     ensures counted { RisesWithin (J.count judge.old) (J.count judge.new)
         (push_bound D (length entries.old - 1)) }
+    ensures path { 0 < length entries.old → (place : ℕ)
+        × GoesUp D (length entries.old - 1) place entries.old entries.new }
     ensures rights { Rights (length entries.old - 1) entries.old entries.new places.old places.new }
 {
     if entries.is_empty() {
@@ -79,7 +82,7 @@ pub fn fix_keyed<J: Judge<Entry>, const D: usize>(
         (fix_bound D (length entries.old) place) }
     ensures rights { Rights place entries.old entries.new places.old places.new }
 {
-    let stop = sift_with::<_, J, D>(entries, place, judge);
+    let stop = fix_with::<_, J, D>(entries, place, judge);
     write_path::<D>(entries, places, place.max(stop), place.min(stop));
 }
 

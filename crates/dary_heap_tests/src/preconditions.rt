@@ -6,19 +6,13 @@ ghost use Rattle.std.specs.Ordering.{int_cmp};
 use crate::{Host, Tested};
 use dary_heap::run::{Command, run};
 use dary_heap::sift::{
-    Judge, Tally, build_with, fix_with, mend_with, parent, pop_to_end_with, pop_with, push_with,
-    remove_with, sift_to_bottom_with, sift_up_with, sift_with,
+    Judge, Tally, build_with, fix_with, mend_with, pop_to_end_with, pop_with, push_with,
+    remove_with, sift_to_bottom_with, sift_up_with,
 };
 use dary_heap::{BinaryHeap, OctonaryHeap, TernaryHeap};
 use dary_heap_uses::greatest::greatest;
 use std::alloc::AllocError;
 use std::cmp::Reverse;
-
-// Each place but the first has a parent.
-#[test]
-fn places_have_parents(rt: HostRuntime) {
-    assert_eq!(rt; [parent::<0>(2), parent::<2>(6), parent::<4>(8)], [1, 2, 1]);
-}
 
 // What `into_vec` gives is in heap order at the same arity, as `from_raw_vec` needs it, and the iterators end.
 #[test]
@@ -208,7 +202,7 @@ fn a_sift_returns_the_place_where_the_item_stops(rt: HostRuntime) -> Tested {
     let stop = sift_up_with::<i32, Tally, 2>(&mut items, 4, &mut judge);
     assert_eq!(rt; (stop, items, judge.made()), (1, [9, 8, 7, 1, 5], 2));
     items[1] = 0;
-    let stop = sift_with::<i32, Tally, 2>(&mut items, 1, &mut judge);
+    let stop = fix_with::<i32, Tally, 2>(&mut items, 1, &mut judge);
     assert_eq!(rt; (stop, items, judge.made()), (4, [9, 5, 7, 1, 0], 2 + 3));
     items[0] = 4;
     let stop = sift_to_bottom_with::<i32, Tally, 2>(&mut items, &mut judge);
@@ -277,4 +271,28 @@ fn a_flipped_judge_gives_the_least_first(rt: HostRuntime) -> Tested {
 /// Compares the items and the comparisons made.
 fn compare(rt: &impl Host, items: &[i32], wanted: &[i32], judge: &Flipped, made: u64) {
     assert_eq!(rt; (items, judge.tally.made()), (wanted, made));
+}
+
+// There is room, and the place is below the length.
+#[test]
+fn an_item_stops_at_the_place_returned(rt: HostRuntime) -> Tested {
+    let mut heap = BinaryHeap::from([9, 5, 7].to_vec(rt.alloc())?);
+    heap.reserve(1)?;
+    assert_eq!(rt; heap.push_returning_place(8), 1);
+    assert_eq!(rt; heap.len(), 4);
+    assert_eq!(rt; heap.replace_at_returning_place(3, 10), (5, 0));
+    assert_eq!(rt; heap.as_slice(), [10, 9, 7, 8].as_slice());
+    Ok(())
+}
+
+// The places are below the length.
+#[test]
+fn a_removal_returns_the_place_of_the_last_item(rt: HostRuntime) -> Tested {
+    let mut heap = BinaryHeap::from([9, 5, 7, 1, 2].to_vec(rt.alloc())?);
+    assert_eq!(rt; heap.len(), 5);
+    assert_eq!(rt; heap.raise_at_returning_place(3, 6), Ok((1, 1)));
+    assert_eq!(rt; heap.raise_at_returning_place(0, 9), Err(9));
+    assert_eq!(rt; heap.remove_at_returning_place(0), (9, 2));
+    assert_eq!(rt; heap.as_slice(), [7, 6, 2, 5].as_slice());
+    Ok(())
 }

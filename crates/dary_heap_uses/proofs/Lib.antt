@@ -1,5 +1,6 @@
 -- The names that most proofs cite are passed on from here.
 pub mod Common
+pub mod Lowering
 pub mod Merging
 pub mod Running
 pub mod Scheduling

@@ -1,9 +1,10 @@
 //! The functions that the README shows without contracts, and others, each of which shows a call.
 ghost use Rattle.std.specs.Ordering.{nat_cmp};
-ghost use Rattle.std.specs.Prelude.{◌≡◌, ◌+◌, ◌<◌, ◌≤◌, ◌↔◌, ◌∷◌, [], ℕ, All, length, set, Some, IsSome, IfSome, IfNone, IfOk, IfErr};
+ghost use Rattle.std.specs.Prelude.{◌≡◌, ◌+◌, ◌<◌, ◌≤◌, ◌↔◌, ◌∷◌, [], ℕ, List, All, length, map, min, set, Some, IsSome, IfSome, IfNone, IfOk, IfErr};
 ghost use Rattle.dary_heap.specs.Bag.{IsGreatest, IsSameBag};
 ghost use Rattle.dary_heap.specs.Bounds.{RisesWithin, pop_bound, sink_bound};
 ghost use Rattle.dary_heap.specs.HeapOrder.{IsHeapOrdered};
+ghost use Rattle.dary_heap.specs.Popping.{IsGivenDescending};
 ghost use Rattle.dary_heap.specs.State.{front};
 
 use dary_heap::sift::{ByOrd, LeastFirst, fix_with};
@@ -72,6 +73,7 @@ pub fn lower(heap: &mut BinaryHeap<u32>, bound: u32)
     ensures lowered { (most : ℕ) → front heap.new.items ≡ Some most → most ≤ bound }
     ensures ordered { IsHeapOrdered nat_cmp 2 heap.new.items }
     ensures len { length heap.new.items ≡ length heap.old.items }
+    ensures bag { IsSameBag (map (λ number. min number bound) heap.old.items) heap.new.items }
 {
     if let Some(mut greatest) = heap.peek_mut() {
         while bound < *greatest {
@@ -85,6 +87,8 @@ pub fn lower(heap: &mut BinaryHeap<u32>, bound: u32)
 pub fn greatest_two<const D: usize>(heap: &mut DaryHeap<u32, D>) -> Option<(u32, u32)>
     ensures two { IsSome result ↔ (2 ≤ length heap.old.items) }
     ensures greatest { IfSome result (λ two. IsGreatest nat_cmp heap.old.items two.0) }
+    ensures given { IfSome result (λ two. (rest : List ℕ)
+        × IsGivenDescending nat_cmp heap.old.items (two.0 ∷ two.1 ∷ []) rest) }
     ensures emptied { heap.new.items ≡ [] }
 {
     let mut numbers = heap.drain_sorted();

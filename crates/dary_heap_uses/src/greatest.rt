@@ -2,7 +2,7 @@
 //!
 //! For a stream a heap of `Reverse` has the least of the items that are kept at its top. A greater item takes
 //! its place by [`push_pop`].
-ghost use Rattle.std.specs.Prelude.{◌≡◌, ◌+◌, ◌*◌, ◌≤◌, [], ◌∷◌, ◌++◌, List, length, min, IfOk, OnOk};
+ghost use Rattle.std.specs.Prelude.{◌≡◌, ◌+◌, ◌*◌, ◌≤◌, [], ◌∷◌, ◌++◌, List, length, min, IfOk, IsOk};
 ghost use Rattle.std.specs.Iterator.{Drains, IsFinite};
 ghost use Rattle.dary_heap.specs.Bounds.{RisesWithin, push_bound, pop_bound};
 ghost use Rattle.dary_heap.specs.Popping.{IsGivenDescending};
@@ -14,7 +14,7 @@ use std::alloc::{AllocError, Global};
 use std::cmp::Reverse;
 
 /// Returns the `k` greatest items of a stream that ends, or all if they are fewer, as a heap whose least
-/// item comes out first. Fails if memory allocation fails, and drops all items then.
+/// item comes out first. Fails if memory allocation fails, and drops all items then. If `k` is 0 it doesn't fail.
 ///
 /// No item that is left out is strictly greater than one that is kept. Of equal items any may stay. For
 /// each item it makes at most one comparison with the least that is kept, and in the heap at most as many
@@ -37,10 +37,11 @@ pub fn greatest<T: Ord + Drop, I: IntoIterator<Item = T>, const D: usize>(
 ) -> Result<DaryHeap<Reverse<T>, D>, AllocError>
     requires { (it : I.IntoIter) → I.into_iter_gives stream it → I.IntoIter.can_next it
         × IsFinite (I.IntoIter.remaining it) }
-    ensures { IfOk result (λ kept. (it : I.IntoIter) × (items : List T)
+    ensures kept { IfOk result (λ kept. (it : I.IntoIter) × (items : List T)
         × I.into_iter_gives stream it × Drains I.IntoIter.next_gives it items
         × KeepsGreatest T.cmp k items (values kept.items)
         × (kept.comparisons ≤ length items * (push_bound D k + pop_bound D k))) }
+    ensures succeeds { k ≡ 0 → IsOk result }
 {
     let mut kept = DaryHeap::new(alloc);
     for item in stream {

@@ -1,6 +1,6 @@
 //! A scheduler: jobs with ids wait at a priority, which may change, until they are taken out or cancelled. A heap
 //! doesn't say which of two equal items comes out first. So each job has a turn, which counts up, beside its priority.
-ghost use Rattle.std.specs.Prelude.{◌≡◌, ◌==◌, ℕ, ◌+◌, ◌<◌, ◌≤◌, ◌⊎◌, ◌↔◌, [], ◌∷◌, All, length, map, IsOk, IfOk, IfErr, OnOk, OnErr, IsSome, IfSome, IfNone};
+ghost use Rattle.std.specs.Prelude.{◌≡◌, ◌==◌, ℕ, ◌+◌, ◌<◌, ◌≤◌, ◌⊎◌, ◌↔◌, [], ◌∷◌, All, length, map, max, IsOk, IfOk, IfErr, OnOk, OnErr, IsSome, IfSome, IfNone};
 ghost use Rattle.std.specs.Bool.{OnTrue, OnFalse};
 ghost use Rattle.dary_heap.specs.Bag.{IsSameBag};
 ghost use Rattle.indexed_heap.specs.Entries.{Gets, IsAbsent, IsEntry, Loses};
@@ -97,14 +97,14 @@ impl<J> Scheduler<J> {
         self.came
     }
 
-    /// Reserves room for at least `additional` more jobs, with ids below `ids`. After `Ok` that many can be submitted
-    /// without an error. If there is room already, it does nothing. Fails if memory allocation fails, which happens
+    /// Reserves room for at least `additional` more jobs, and for the ids below `ids` and no others. After `Ok` that many
+    /// can be submitted without an error. If there is room already, it does nothing. Fails if memory allocation fails, which happens
     /// only if some of that room was missing. The jobs stay as they are.
     pub fn reserve(&mut self, additional: usize, ids: usize) -> Result<(), AllocError>
         ensures waiting { self.new.waiting ≡ self.old.waiting }
         ensures came { self.new.came ≡ self.old.came }
         ensures room { OnOk result (length self.new.waiting + additional ≤ self.new.room) }
-        ensures ids { OnOk result (ids ≤ self.new.ids) }
+        ensures ids { OnOk result (self.new.ids ≡ max self.old.ids ids) }
         ensures grows { (self.old.room ≤ self.new.room) × (self.old.ids ≤ self.new.ids) }
         ensures kept { length self.old.waiting + additional ≤ self.old.room
             → self.new.room ≡ self.old.room }

@@ -1,6 +1,6 @@
 //! A timer queue: timers with names are set for moments, set again, cancelled, and taken out once they are due. A
 //! clause sees a queue as the `Timers` of `specs/Timers.antt`.
-ghost use Rattle.std.specs.Prelude.{◌≡◌, ◌==◌, ℕ, ◌+◌, ◌-◌, ◌<◌, ◌≤◌, ◌⊎◌, [], ◌∷◌, All, length, map, vec_len, vec_capacity, IfSome, IfNone, IfOk, OnOk, OnErr, IsOk};
+ghost use Rattle.std.specs.Prelude.{◌≡◌, ◌==◌, ℕ, ◌+◌, ◌-◌, ◌<◌, ◌≤◌, ◌⊎◌, [], ◌∷◌, All, length, map, max, vec_len, vec_capacity, IfSome, IfNone, IfOk, OnOk, OnErr, IsOk};
 ghost use Rattle.dary_heap.specs.Bag.{IsSameBag};
 ghost use Rattle.dary_heap.specs.Bounds.{RisesWithin, pop_bound, pops_bound};
 ghost use Rattle.indexed_heap.specs.Entries.{AreDistinct, Gets, InsertsWithin, IsAbsent, IsEntry, Loses, item_of};
@@ -90,14 +90,14 @@ impl<const D: usize> TimerQueue<D> {
         Some(timer.0)
     }
 
-    /// Reserves room for at least `additional` more timers, and for names below `names`. After `Ok` that many can
-    /// be set without an error. If there is room already, it does nothing. Fails if memory allocation fails, which
+    /// Reserves room for at least `additional` more timers, and for the names below `names` and no others. After `Ok`
+    /// that many can be set without an error. If there is room already, it does nothing. Fails if memory allocation fails, which
     /// happens only if some of that room was missing. The timers stay as they are.
     pub fn reserve(&mut self, additional: usize, names: usize) -> Result<(), AllocError>
         ensures set { self.new.set ≡ self.old.set }
         ensures uncounted { self.new.comparisons ≡ self.old.comparisons }
         ensures room { OnOk result (length self.new.set + additional ≤ self.new.room) }
-        ensures names { OnOk result (names ≤ self.new.names) }
+        ensures names { OnOk result (self.new.names ≡ max self.old.names names) }
         ensures grows { (self.old.room ≤ self.new.room) × (self.old.names ≤ self.new.names) }
         ensures kept { length self.old.set + additional ≤ self.old.room
             → self.new.room ≡ self.old.room }

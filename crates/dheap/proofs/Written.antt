@@ -89,6 +89,15 @@ module _ {D : ℕ} (replies : List (Reply ℤ D)) (i : ℕ) where
     pub answered-here : All IsAnswered (read.replies (take i replies)) → read.replies (take i replies) ≡ answered (read.replies replies)
     answered-here whole = sym (ap answered at-reply ∙ answered_before _ _ _ whole none)
 
+same_bytes : (a : Option (List ℕ)) → Appends a a []
+same_bytes None = tt
+same_bytes (Some xs) = sym (append-nil xs)
+
+-- if the first reply has no answer, nothing is written
+pub none_written : {D : ℕ} (a : Option (List ℕ)) (replies : List (Reply ℤ D)) (reply : Reply ℤ D) → 0 < length replies → reply ≡ get_or replies 0 reply → is_some (answer (read.reply reply)) ≡ false →
+    Appends a a (text (answered (read.replies replies)))
+none_written a replies reply some is none = subst (λ rs. Appends a a (text rs)) (answered-here replies 0 reply some is none (All-nil IsAnswered)) (same_bytes a)
+
 -- what is printed if each reply has an answer
 pub printed_by : (may : List ℕ → Type 0) (a b : Option (List ℕ)) (replies : List (machine.Reply ℤ)) → All IsAnswered replies → Appends a b (text (answered replies)) → may (text replies) →
     (printed : List ℕ) × may printed × Appends a b printed

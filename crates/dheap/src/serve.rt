@@ -36,6 +36,10 @@ pub fn serve<R: Read, W: Write, E: Write>(
     ensures status { result ≤ 4 }
     ensures usage { (result ≡ 2) ↔ ((d : ℕ) → ¬ (IsArity (map string_bytes words.now) d)) }
 
+    // Nothing is read unless the arguments are right, and no message is written if all went well.
+    ensures unread { result ≡ 2 → input.new ≡ input.old }
+    ensures quiet { result ≡ 0 → errors.new ≡ errors.old }
+
     // If a line may be bad, all lines were read, and nothing was written.
     ensures whole { result < 2 → IsAtEnd (R.remaining input.new) }
     ensures silent { 0 < result → result < 3
@@ -63,6 +67,7 @@ fn try_serve<R: Read, W: Write>(
     ensures usage { IfErr result
         (λ fault. (status_of fault ≡ 2) ↔ ((d : ℕ) → ¬ (IsArity (map string_bytes words.now) d))) }
     ensures named { OnOk result ((d : ℕ) × IsArity (map string_bytes words.now) d) }
+    ensures unread { IfErr result (λ fault. status_of fault ≡ 2 → input.new ≡ input.old) }
     ensures whole { OnOk result (IsAtEnd (R.remaining input.new)) }
     ensures read { IfErr result (λ fault. status_of fault ≡ 1 → IsAtEnd (R.remaining input.new)) }
     ensures bad { IfErr result (λ fault. status_of fault ≡ 1 → IfSome (R.remaining input.old)

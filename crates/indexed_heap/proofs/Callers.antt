@@ -4,8 +4,8 @@ use Rattle.dary_heap.proofs.Common.{Contains-permutation, IsPermutation, IsPermu
 use Rattle.dary_heap.proofs.Bags.{Contains-later}
 use Rattle.indexed_heap.specs.Entries.{InsertsWithin, IsAbsent, IsEntry}
 use Rattle.indexed_heap.proofs.Bounding.{within_sink}
-pub use Rattle.indexed_heap.proofs.Reading.{none_there, one_item, item_of-absent, item_of-there, item_of-none, item_of-has, item_of-agrees, Gets-here, Gets-others, Gets-given, Loses-given}
-pub use Rattle.indexed_heap.proofs.Reading.{Loses-others, pop_loses}
+pub use Rattle.indexed_heap.proofs.AsMap.{none_there, one_item, item_of-absent, item_of-there, item_of-none, item_of-has, item_of-agrees, Gets-here, Gets-others, Gets-given, Loses-given}
+pub use Rattle.indexed_heap.proofs.AsMap.{Loses-others, pop_loses}
 pub use Rattle.indexed_heap.proofs.Mapping.{Gets-all, Loses-all, showing, item_of-map, IsAbsent-map, Loses-map, Gets-map, AreDistinct-map, IsEntry-map, InsertsWithin-map}
 pub use Rattle.indexed_heap.proofs.Removing.{still_absent}
 
@@ -16,9 +16,9 @@ absent_apart key entries entry h in' = h.none in'.0 entry (slice_get-get_or entr
 -- what was absent stays so if an entry is taken out
 pub absent_left : {X : Type 0} (key : ℕ) (old new : List (ℕ × X)) (entry : ℕ × X) → IsPermutation old (entry ∷ new) → IsAbsent key old → IsAbsent key new
 absent_left key old new entry bag h = record {
-  none = λ i slot there.
-      let in' : Contains new slot = (i, slice_get_within new i slot there, get_or_from_slice_get new i slot slot there) in
-      absent_apart key old slot h (Contains-permutation (entry ∷ new) old slot (IsPermutation-sym old (entry ∷ new) bag) (Contains-later entry new slot in'));
+  none = λ i other there.
+      let in' : Contains new other = (i, slice_get_within new i other there, get_or_from_slice_get new i other other there) in
+      absent_apart key old other h (Contains-permutation (entry ∷ new) old other (IsPermutation-sym old (entry ∷ new) bag) (Contains-later entry new other in'));
 }
 
 -- at any place an insert of a key with an item takes no more comparisons than sifting down the first of as many items

@@ -21,31 +21,31 @@ max_is a b = elim (cases_lt b a) [
 ]
 
 module _ {X : Type 0} where
-  -- one more slot
-  pub bound_more : (slots : List (ℕ × X)) (slot : ℕ × X) → key_bound (slots ++ slot ∷ []) ≡ max (key_bound slots) (slot.0 + 1)
-  bound_more slots slot = max_push key_bound (λ (s : ℕ × X). s.0 + 1) refl (λ x xs. refl) slots slot
+  -- one more entry
+  pub bound_more : (entries : List (ℕ × X)) (entry : ℕ × X) → key_bound (entries ++ entry ∷ []) ≡ max (key_bound entries) (entry.0 + 1)
+  bound_more entries entry = max_push key_bound (λ (s : ℕ × X). s.0 + 1) refl (λ x xs. refl) entries entry
 
   -- each key is below
-  pub below_bound : (slots : List (ℕ × X)) (i : ℕ) (slot : ℕ × X) → slice_get slots i ≡ Some slot → slot.0 < key_bound slots
-  below_bound [] i slot there = let inside : i < 0 = slice_get_within [] i slot there in absurd (omega arith)
-  below_bound (x ∷ xs) zero slot there = let is : x ≡ slot = (cc) in omega (arith, ap (λ (s : ℕ × X). s.0) is)
-  below_bound (x ∷ xs) (suc i) slot there = omega (arith, below_bound xs i slot there)
+  pub below_bound : (entries : List (ℕ × X)) (i : ℕ) (entry : ℕ × X) → slice_get entries i ≡ Some entry → entry.0 < key_bound entries
+  below_bound [] i entry there = let inside : i < 0 = slice_get_within [] i entry there in absurd (omega arith)
+  below_bound (x ∷ xs) zero entry there = let is : x ≡ entry = (cc) in omega (arith, ap (λ (s : ℕ × X). s.0) is)
+  below_bound (x ∷ xs) (suc i) entry there = omega (arith, below_bound xs i entry there)
 
   -- and no number is less that is above each key
-  pub bound_least : (slots : List (ℕ × X)) (n : ℕ) → ((i : ℕ) (slot : ℕ × X) → slice_get slots i ≡ Some slot → slot.0 < n) → key_bound slots ≤ n
+  pub bound_least : (entries : List (ℕ × X)) (n : ℕ) → ((i : ℕ) (entry : ℕ × X) → slice_get entries i ≡ Some entry → entry.0 < n) → key_bound entries ≤ n
   bound_least [] n h = omega arith
-  bound_least (x ∷ xs) n h = omega (arith, h 0 x refl, bound_least xs n (λ i slot there. h (suc i) slot there))
+  bound_least (x ∷ xs) n h = omega (arith, h 0 x refl, bound_least xs n (λ i entry there. h (suc i) entry there))
 
-  module _ {slots : List (ℕ × X)} {places : List ℕ} (right : AreRight slots places) where
+  module _ {entries : List (ℕ × X)} {places : List ℕ} (right : AreRight entries places) where
     -- the table has room for each key
-    pub bound_within : key_bound slots ≤ length places
-    bound_within = bound_least slots (length places) (has_place right)
+    pub bound_within : key_bound entries ≤ length places
+    bound_within = bound_least entries (length places) (has_place right)
 
     -- and shows the same if it is cut off above each key
-    pub cut_right : (n : ℕ) → key_bound slots ≤ n → AreRight slots (take n places)
+    pub cut_right : (n : ℕ) → key_bound entries ≤ n → AreRight entries (take n places)
     cut_right n above = record {
-      right = λ i slot there.
-          let low : slot.0 < key_bound slots = below_bound slots i slot there in
-          let inside : slot.0 < length places = has_place right i slot there in
-          reads places (take n places) slot.0 slot.0 (omega (arith, length-take n places)) inside (λ d. get_or-take n places slot.0 d (omega arith)) ∙ right.right i slot there;
+      right = λ i entry there.
+          let low : entry.0 < key_bound entries = below_bound entries i entry there in
+          let inside : entry.0 < length places = has_place right i entry there in
+          reads places (take n places) entry.0 entry.0 (omega (arith, length-take n places)) inside (λ d. get_or-take n places entry.0 d (omega arith)) ∙ right.right i entry there;
     }

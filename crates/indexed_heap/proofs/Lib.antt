@@ -5,7 +5,7 @@ pub mod Bounding
 pub mod Sound
 pub mod Raising
 pub mod Callers
-pub mod Reading
+pub mod AsMap
 pub mod Iterating
 pub mod Copying
 pub mod Keys

@@ -7,7 +7,7 @@ use Rattle.std.proofs.lemmas.List.Sorted.{All-permutation, IsPermutation-map}
 use Rattle.std.proofs.lemmas.Option.{slice_get-map}
 use Rattle.std.specs.Option.{option_map}
 use Rattle.indexed_heap.specs.Entries.{AreDistinct, Gets, InsertsWithin, IsAbsent, IsEntry, Loses, item_of}
-use Rattle.indexed_heap.proofs.Reading.{item_of-absent, item_of-none}
+use Rattle.indexed_heap.proofs.AsMap.{item_of-absent, item_of-none}
 
 module _ {X : Type 0} (P : ℕ × X → Type 0) (key : ℕ) where
   -- what holds of each entry holds of those that are left

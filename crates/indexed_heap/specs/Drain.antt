@@ -1,20 +1,12 @@
 -- What a clause sees of a `Drain`, and what it makes of the heap.
-use Rattle.std.specs.Prelude.{ℕ, List, [], ◌∷◌}
+use Rattle.std.specs.Prelude.{[], ◌∷◌}
 use denote.Builtin.{usize}
 use denote.Struct.Tuple.{Tuple}
 use Rattle.std.specs.Borrow.{Fml, GName, RattleType, MutBor, Array, follows}
 use Rattle.dary_heap.specs.declared.sift.judge.Judge as judge
+pub use Rattle.dary_heap.specs.Drain.{drain_rest, drain_lender}
 use Rattle.indexed_heap.specs.Entries.{Indexed}
 use Rattle.indexed_heap.specs.contracts.heap.IndexedHeap.{the_row}
-use Rattle.indexed_heap.specs.declared.iter.drain.Drain.{Drain}
-
--- the entries that are left
-abbrev pub drain_rest : {T : Type 0} → Drain T → List (ℕ × T)
-drain_rest it = it.rest
-
--- the name of the reference by which it keeps the heap borrowed
-abbrev pub drain_lender : {T : Type 0} → Drain T → GName
-drain_lender it = it.left.ghost_name
 
 -- a heap whose entries were taken out of it with their vector
 abbrev pub emptied : {T : Type 0} → Indexed T → Indexed T

@@ -1,12 +1,10 @@
 -- What the iterators of an indexed heap give.
-use Rattle.std.specs.Prelude.{◌≡◌, ℕ, Option}
+use Rattle.std.specs.Prelude.{ℕ}
 use denote.Ref.{Bor}
 use Rattle.std.specs.Iterator.{YieldsFirstBy, YieldsLastBy}
 use Rattle.std.specs.Iterator.Runs.{EveryRun, ItemsMapTo, ItemsMapToReversed}
-use Rattle.std.specs.declared.cmp.Ordering.{Ordering}
 use Rattle.dary_heap.specs.Contents.{Contents}
-use Rattle.dary_heap.specs.Popping.{IsPop}
-use Rattle.indexed_heap.specs.Entries.{Indexed, by_item}
+use Rattle.indexed_heap.specs.Entries.{Indexed}
 
 -- the entry that an item of `iter` shows
 abbrev pub shown : {T : Type 0} → ℕ × Bor T → ℕ × T
@@ -23,8 +21,3 @@ ShowsInReverse T = EveryRun (YieldsLastBy (shown {T = T}) (λ rest. rest)) (λ p
 -- the entries as a heap of pairs
 abbrev pub contents : {T : Type 0} → Indexed T → Contents (ℕ × T)
 contents heap = record { items = heap.entries; capacity = heap.capacity; comparisons = heap.comparisons }
-
--- a pop took old to new and gave this entry, or none
-pub record IsEntryPop {T : Type 0} (cmp : T → T → Ordering) (D : ℕ) (old : Indexed T) (popped : Option (ℕ × T)) (new : Indexed T) : Type 0 where
-  pub pop : IsPop (by_item cmp) D (contents old) popped (contents new)
-  pub keys : new.keys ≡ old.keys

@@ -3,7 +3,7 @@ pub mod Drain
 pub mod Entries
 pub mod Iterating
 pub mod Keys
+pub mod Lowering
 pub mod Making
 pub mod Places
-pub mod Routes
 pub mod Showing

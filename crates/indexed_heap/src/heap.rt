@@ -7,6 +7,7 @@ ghost use Rattle.std.specs.Prelude.{◌≡◌, [], length, ◌==◌};
 ghost use Rattle.indexed_heap.specs.Entries.{AreSound};
 
 use crate::judge::ByItem;
+use dary_heap::DaryHeap;
 use dary_heap::sift::{ByOrd, Judge};
 use std::alloc::Global;
 use std::marker::Model;
@@ -58,28 +59,25 @@ mod remove;
 /// ```
 #[derive(Drop)]
 pub struct IndexedHeap<T, const D: usize, J: Judge<T> = ByOrd> {
-    pub(crate) slots: Vec<(usize, T)>,
+    pub(crate) entries: DaryHeap<(usize, T), D, ByItem<J>>,
     pub(crate) places: Vec<usize>,
-    pub(crate) judge: ByItem<J>,
 }
 
 impl<T, const D: usize, J: Judge<T>> Model for IndexedHeap<T, D, J> {
-    ghost use Rattle.std.specs.Prelude.{vec_capacity, vec_len};
-    ghost use Rattle.dary_heap.specs.HeapOrder.{IsHeapOrdered};
-    ghost use Rattle.indexed_heap.specs.Entries.{Indexed, by_item};
+    ghost use Rattle.std.specs.Prelude.{vec_len};
+    ghost use Rattle.indexed_heap.specs.Entries.{Indexed};
     ghost use Rattle.indexed_heap.specs.Places.{AreRight};
 
     ghost Value = { Indexed T };
 
     ghost view = { λ heap. record {
-      entries = heap.slots.items;
-      capacity = vec_capacity heap.slots;
+      entries = heap.entries.items;
+      capacity = heap.entries.capacity;
       keys = vec_len heap.places;
-      comparisons = J.count heap.judge.items;
+      comparisons = heap.entries.comparisons;
     } };
 
-    ghost invariant = { λ heap. IsHeapOrdered (by_item J.order) D heap.slots.items
-        × AreRight heap.slots.items heap.places.items };
+    ghost invariant = { λ heap. AreRight heap.entries.items heap.places.items };
 }
 
 impl<T: Ord, const D: usize> IndexedHeap<T, D> {
@@ -126,9 +124,8 @@ impl<T, const D: usize, J: Judge<T>> IndexedHeap<T, D, J> {
         ensures comparisons { result.comparisons ≡ J.count judge }
     {
         IndexedHeap {
-            slots: Vec::new(alloc),
+            entries: DaryHeap::with_judge(alloc, ByItem { items: judge }),
             places: Vec::new(alloc),
-            judge: ByItem { items: judge },
         }
     }
 
@@ -147,7 +144,7 @@ impl<T, const D: usize, J: Judge<T>> IndexedHeap<T, D, J> {
     pub fn judge(&self) -> &J
         ensures counted { J.count result.now ≡ self.now.comparisons }
     {
-        &self.judge.items
+        &self.entries.judge().items
     }
 
     /// Returns the number of entries. Takes *O*(1), without a comparison.
@@ -165,7 +162,7 @@ impl<T, const D: usize, J: Judge<T>> IndexedHeap<T, D, J> {
         ensures len { result ≡ length self.now.entries }
         ensures sound { AreSound J.order D self.now.entries }
     {
-        self.slots.len()
+        self.entries.len()
     }
 
     /// Returns `true` if there are no entries. Takes *O*(1), without a comparison.
@@ -183,7 +180,7 @@ impl<T, const D: usize, J: Judge<T>> IndexedHeap<T, D, J> {
         ensures empty { result ≡ (length self.now.entries == 0) }
         ensures sound { AreSound J.order D self.now.entries }
     {
-        self.slots.is_empty()
+        self.entries.is_empty()
     }
 
     /// Returns the entries in the order in which they are stored. Takes *O*(1), without a comparison.
@@ -204,6 +201,6 @@ impl<T, const D: usize, J: Judge<T>> IndexedHeap<T, D, J> {
         ensures entries { result.now ≡ self.now.entries }
         ensures sound { AreSound J.order D self.now.entries }
     {
-        self.slots.as_slice()
+        self.entries.as_slice()
     }
 }

@@ -38,17 +38,16 @@
 //!
 //! # Modules
 //!
-//! [`heap`] has the heap, [`iter`] its iterators, and [`shortest_path`] a search for a cheapest walk. They stand on a
-//! table of places, in which each move of an entry is written down, and that on the sifts and judges of the crate
-//! `dary_heap`.
+//! [`heap`] has the heap, [`iter`] its iterators, and [`shortest_path`] a search for a cheapest walk. The entries lie in
+//! a heap of the crate `dary_heap`, beside a table of their places, in which each move of an entry is written down.
 #![tactic(auto)]
 
 pub mod heap;
 pub mod iter;
 mod judge;
-mod moves;
 pub mod shortest_path;
 mod table;
 
 pub use heap::IndexedHeap;
 pub use iter::{Drain, IntoIter, IntoIterSorted, Iter};
+pub use judge::ByItem;

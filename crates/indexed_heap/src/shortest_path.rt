@@ -9,15 +9,15 @@ ghost use Rattle.dary_heap.specs.Bounds.{RisesWithin, push_bound};
 ghost use Rattle.dary_heap.specs.Walk.{IsWithin, IsLeastCost, IsUnreached, HasCritical, NoneCriticalBelow};
 ghost use Rattle.dary_heap.specs.declared.shortest_path.PathRefusal.TheVariants.{CostTooLarge};
 ghost use Rattle.dary_heap.specs.shortest_path.Searching.{HasTooLarge};
-ghost use Rattle.indexed_heap.specs.Routes.{HasSameRoom, IsReady, Lowers, Waits, raises_bound, search_bound};
+ghost use Rattle.indexed_heap.specs.Lowering.{HasSameRoom, IsReady, Lowers, Waits, raises_bound, search_bound};
 
 use crate::heap::IndexedHeap;
 use dary_heap::shortest_path::{Edge, PathRefusal};
-use dary_heap::sift::{ByOrd, LeastFirst};
+use dary_heap::sift::{ByOrd, JudgesByOrd, LeastFirst};
 use std::alloc::Global;
 
 /// Nodes that wait, each with a cost. The cheapest comes out first.
-pub type CostHeap<const D: usize> = IndexedHeap<usize, D, LeastFirst<ByOrd>>;
+pub type CostHeap<const D: usize, J = ByOrd> = IndexedHeap<usize, D, LeastFirst<J>>;
 
 /// The cost of a walk reaches `usize::MAX`.
 #[derive(Clone, Copy, PartialEq, Eq, Debug)]
@@ -105,7 +105,7 @@ pub fn shortest_path_by_lowering(
 }
 
 /// The same search in memory that the caller has allocated: `found` has a number for each node, and `heap` has room for
-/// each. What they hold before doesn't matter.
+/// each. What they hold before doesn't matter. By the judge `Tally` the heap counts its comparisons.
 ///
 /// It allocates no memory, so many searches can share the room.
 ///
@@ -140,12 +140,12 @@ pub fn shortest_path_by_lowering(
 ///
 /// The table is filled once. Each node comes out of the heap once at most. A cost is put into the heap or lowered there
 /// once for the start, and once at most for each edge.
-pub fn shortest_path_by_lowering_within<const D: usize>(
+pub fn shortest_path_by_lowering_within<const D: usize, J: JudgesByOrd<usize>>(
     adj_list: &Vec<Vec<Edge>>,
     start: usize,
     goal: usize,
     found: &mut [usize],
-    heap: &mut CostHeap<D>,
+    heap: &mut CostHeap<D, J>,
 ) -> Result<Option<usize>, TooLarge>
     requires graph { IsWithin (length adj_list.now.items) adj_list.now.items }
     requires start { start < length adj_list.now.items }
@@ -176,11 +176,11 @@ pub fn shortest_path_by_lowering_within<const D: usize>(
 
 /// Examines the edges of a node that is reached at a cost. If a walk over one of them costs less than was found for the
 /// node that it leads to, that node waits with the lower cost from then on.
-fn relax<const D: usize>(
+fn relax<const D: usize, J: JudgesByOrd<usize>>(
     edges: &Vec<Edge>,
     cost: usize,
     found: &mut [usize],
-    heap: &mut CostHeap<D>,
+    heap: &mut CostHeap<D, J>,
 ) -> Result<(), TooLarge>
     requires within { All (λ edge. edge.node < length found.old) edges.now.items }
     requires ready { IsReady usize.MAX found.old heap.old }
@@ -206,7 +206,12 @@ fn relax<const D: usize>(
 }
 
 /// Lowers the cost that was found for a node, which waits with that cost from then on.
-fn wait_at<const D: usize>(node: usize, cost: usize, found: &mut [usize], heap: &mut CostHeap<D>)
+fn wait_at<const D: usize, J: JudgesByOrd<usize>>(
+    node: usize,
+    cost: usize,
+    found: &mut [usize],
+    heap: &mut CostHeap<D, J>,
+)
     requires within { node < length found.old }
     requires ready { IsReady usize.MAX found.old heap.old }
     requires lower { cost < slice_index_or found.old node usize.MAX }

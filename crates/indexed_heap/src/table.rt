@@ -1,51 +1,82 @@
-//! Slots with their places: what a call of the heap does to them.
-ghost use Rattle.std.specs.Prelude.{ℕ, max, ◌↔◌, IsTrue, ◌≡◌, ◌+◌, ◌-◌, ◌<◌, ◌⊎◌, false, ◌∷◌, true, length, slice_get, vec_len, vec_capacity, Some, IfSome, IfNone, IfOk, OnOk, OnErr, IfErr, IsOk, Contains, slice_index_or, [], ◌≢◌, ◌≤◌};
+//! The heap of entries with the table of their places: what a call does to both.
+//!
+//! `places[key]` is the place of the entry with that key; of a key without an entry it may be any number. The heap says
+//! where it moved an entry, and only entries on that path have moved. Their places are written afterwards: each once,
+//! and none waits for another.
+ghost use Rattle.std.specs.Prelude.{ℕ, max, ◌↔◌, IsTrue, ◌≡◌, ◌+◌, ◌<◌, ◌⊎◌, ◌∷◌, length, slice_get, vec_len, Some, IfSome, IfNone, IfOk, OnOk, OnErr, IfErr, IsOk, is_ok, Contains, slice_index_or, ◌≢◌, ◌≤◌};
 ghost use Rattle.std.specs.Bool.{OnTrue, OnFalse};
 ghost use Rattle.std.specs.declared.cmp.Ordering.TheVariants.{Greater};
 ghost use Rattle.dary_heap.specs.Bag.{IsSameBag};
 ghost use Rattle.dary_heap.specs.Bounds.{RisesWithin, fix_bound, pop_bound, push_bound};
 ghost use Rattle.dary_heap.specs.HeapOrder.{IsHeapOrdered, depth};
+ghost use Rattle.dary_heap.specs.Path.{IsAbove};
 ghost use Rattle.indexed_heap.specs.Entries.{Gets, InsertsWithin, IsAbsent, IsEntry, IsReached, Loses, Raises};
-ghost use Rattle.indexed_heap.specs.Places.{AreRight};
+ghost use Rattle.indexed_heap.specs.Places.{AreRight, AreRightOffPath, MakesRoomFor};
 
-use crate::moves::{fix, sift_to_bottom, sift_up};
-use dary_heap::sift::Judge;
+use dary_heap::DaryHeap;
+use dary_heap::sift::{Judge, parent};
 use std::alloc::AllocError;
-use std::mem;
 
-/// Returns the place of the slot with a key.
+/// Returns the place of the entry with a key.
 #[inline]
-pub(crate) fn place_of<T>(slots: &[(usize, T)], places: &[usize], key: usize) -> Option<usize>
-    requires { AreRight slots.now places.now }
-    ensures found { IfSome result (λ at. IsEntry slots.now at key) }
-    ensures none { IfNone result (IsAbsent key slots.now) }
+pub(crate) fn place_of<T>(entries: &[(usize, T)], places: &[usize], key: usize) -> Option<usize>
+    requires { AreRight entries.now places.now }
+    ensures found { IfSome result (λ at. IsEntry entries.now at key) }
+    ensures none { IfNone result (IsAbsent key entries.now) }
 {
     let at = *places.get(key)?;
-    if slots.get(at)?.0 == key {
+    if entries.get(at)?.0 == key {
         Some(at)
     } else {
         None
     }
 }
 
-/// Makes room for `additional` more slots, unless there is that much already.
-fn grow<T>(slots: &mut Vec<(usize, T)>, additional: usize) -> Result<(), AllocError>
-    ensures items { slots.new.items ≡ slots.old.items }
-    ensures room { OnOk result (vec_len slots.new + additional ≤ vec_capacity slots.new) }
-    ensures capacity { vec_capacity slots.old ≤ vec_capacity slots.new }
-    ensures kept { vec_len slots.old + additional ≤ vec_capacity slots.old
-        → vec_capacity slots.new ≡ vec_capacity slots.old }
-    ensures succeeds { vec_len slots.old + additional ≤ vec_capacity slots.old → IsOk result }
-    ensures full { OnErr result (vec_capacity slots.old < vec_len slots.old + additional) }
+/// Writes the places of the entries on the path from `low` up to `high`.
+#[inline(always)]
+fn write_path<T, const D: usize>(
+    entries: &[(usize, T)],
+    places: &mut [usize],
+    low: usize,
+    high: usize,
+)
+    requires inside { low < length entries.now }
+    requires above { IsAbove D high low }
+    requires right { AreRightOffPath D low high entries.now places.old }
+    ensures { AreRight entries.now places.new }
 {
-    if additional <= slots.capacity() - slots.len() {
+    let mut at = low;
+    while high < at {
+        places[entries[at].0] = at;
+        at = parent::<D>(at);
+    }
+    places[entries[at].0] = at;
+}
+
+/// Makes room for `additional` more entries, unless there is that much already.
+pub(crate) fn grow<T, J: Judge<T>, const D: usize>(
+    entries: &mut DaryHeap<T, D, J>,
+    additional: usize,
+) -> Result<(), AllocError>
+    ensures items { entries.new.items ≡ entries.old.items }
+    ensures ordered { IsHeapOrdered J.order D entries.new.items }
+    ensures uncounted { entries.new.comparisons ≡ entries.old.comparisons }
+    ensures room { OnOk result (length entries.new.items + additional ≤ entries.new.capacity) }
+    ensures capacity { entries.old.capacity ≤ entries.new.capacity }
+    ensures kept { length entries.old.items + additional ≤ entries.old.capacity
+        → entries.new.capacity ≡ entries.old.capacity }
+    ensures succeeds { length entries.old.items + additional ≤ entries.old.capacity → IsOk result }
+    ensures full { OnErr result (entries.old.capacity < length entries.old.items + additional) }
+    ensures holds { length entries.old.items ≤ entries.old.capacity }
+{
+    if additional <= entries.capacity() - entries.len() {
         return Ok(());
     }
-    slots.reserve(additional)
+    entries.reserve(additional)
 }
 
 /// Makes the table of places at least so long.
-fn widen(places: &mut Vec<usize>, keys: usize) -> Result<(), AllocError>
+pub(crate) fn widen(places: &mut Vec<usize>, keys: usize) -> Result<(), AllocError>
     ensures kept { (k d : ℕ) → k < vec_len places.old
         → slice_index_or places.new.items k d ≡ slice_index_or places.old.items k d }
     ensures keys { OnOk result (vec_len places.new ≡ max (vec_len places.old) keys) }
@@ -59,332 +90,166 @@ fn widen(places: &mut Vec<usize>, keys: usize) -> Result<(), AllocError>
     places.resize(keys, 0)
 }
 
-/// Reserves room for more slots, and for the places of the keys below a number.
-pub(crate) fn reserve<T>(
-    slots: &mut Vec<(usize, T)>,
+/// Makes room for one more entry and for the place of a key. Fails if memory allocation fails, or if the key is
+/// `usize::MAX`.
+fn make_room<T, J: Judge<(usize, T)>, const D: usize>(
+    entries: &mut DaryHeap<(usize, T), D, J>,
     places: &mut Vec<usize>,
-    additional: usize,
-    keys: usize,
+    key: usize,
 ) -> Result<(), AllocError>
-    requires { AreRight slots.old.items places.old.items }
-    ensures slots { slots.new.items ≡ slots.old.items }
-    ensures right { AreRight slots.new.items places.new.items }
-    ensures room { OnOk result (vec_len slots.new + additional ≤ vec_capacity slots.new) }
-    ensures keyed { OnOk result (vec_len places.new ≡ max (vec_len places.old) keys) }
-    ensures capacity { vec_capacity slots.old ≤ vec_capacity slots.new }
-    ensures keys { vec_len places.old ≤ vec_len places.new }
-    ensures kept { vec_len slots.old + additional ≤ vec_capacity slots.old
-        → vec_capacity slots.new ≡ vec_capacity slots.old }
-    ensures kept_keys { keys ≤ vec_len places.old → vec_len places.new ≡ vec_len places.old }
-    ensures succeeds { vec_len slots.old + additional ≤ vec_capacity slots.old
-        → keys ≤ vec_len places.old → IsOk result }
-    ensures full { OnErr result ((vec_capacity slots.old < vec_len slots.old + additional)
-        ⊎ (vec_len places.old < keys)) }
+    requires { AreRight entries.old.items places.old.items }
+    ensures items { entries.new.items ≡ entries.old.items }
+    ensures ordered { IsHeapOrdered J.order D entries.new.items }
+    ensures uncounted { entries.new.comparisons ≡ entries.old.comparisons }
+    ensures right { AreRight entries.new.items places.new.items }
+    ensures made { MakesRoomFor key entries.old entries.new (vec_len places.old)
+        (vec_len places.new) (is_ok result) }
+    ensures room { OnOk result ((length entries.new.items < entries.new.capacity)
+        × (key < vec_len places.new)) }
 {
-    grow(slots, additional)?;
+    grow::<(usize, T), J, D>(entries, 1)?;
+    let keys = key.checked_add(1).ok_or(AllocError)?;
     widen(places, keys)
 }
 
-/// Reserves room for one more slot and for the place of a key. Fails if memory allocation fails, or if the key is
-/// `usize::MAX`.
-fn make_room<T>(
-    slots: &mut Vec<(usize, T)>,
-    places: &mut Vec<usize>,
+/// Returns `true` if there is room for one more entry and for the place of a key.
+#[inline(always)]
+pub(crate) fn has_room<T, J: Judge<T>, const D: usize>(
+    entries: &DaryHeap<T, D, J>,
+    places: &Vec<usize>,
     key: usize,
-) -> Result<(), AllocError>
-    requires { AreRight slots.old.items places.old.items }
-    ensures slots { slots.new.items ≡ slots.old.items }
-    ensures right { AreRight slots.new.items places.new.items }
-    ensures capacity { vec_capacity slots.old ≤ vec_capacity slots.new }
-    ensures keys { vec_len places.old ≤ vec_len places.new }
-    ensures kept { vec_len slots.old < vec_capacity slots.old
-        → vec_capacity slots.new ≡ vec_capacity slots.old }
-    ensures keyed { key < vec_len places.old → vec_len places.new ≡ vec_len places.old }
-    ensures succeeds { vec_len slots.old < vec_capacity slots.old → key < vec_len places.old
-        → IsOk result }
-    ensures full { OnErr result
-        ((vec_len slots.old ≡ vec_capacity slots.old) ⊎ (vec_len places.old ≤ key)) }
-    ensures room { OnOk result ((vec_len slots.new < vec_capacity slots.new)
-        × (key < vec_len places.new)) }
+) -> bool
+    ensures { IsTrue result ↔ ((length entries.now.items < entries.now.capacity) × (key < vec_len places.now)) }
 {
-    let keys = key.checked_add(1).ok_or(AllocError)?;
-    reserve(slots, places, 1, keys)
+    entries.len() < entries.capacity() && key < places.len()
 }
 
-/// Returns `true` if there is room for one more slot and for the place of a key.
+/// Adds an entry for a key that has none, in the room that there is.
 #[inline(always)]
-fn has_room<T>(slots: &Vec<(usize, T)>, places: &Vec<usize>, key: usize) -> bool
-    ensures { IsTrue result ↔ ((vec_len slots.now < vec_capacity slots.now) × (key < vec_len places.now)) }
-{
-    slots.len() < slots.capacity() && key < places.len()
-}
-
-/// Adds a slot for a key that has none, in the room that there is.
-#[inline(always)]
-fn put<T, J: Judge<(usize, T)>, const D: usize>(
-    slots: &mut Vec<(usize, T)>,
+pub(crate) fn put<T, J: Judge<(usize, T)>, const D: usize>(
+    entries: &mut DaryHeap<(usize, T), D, J>,
     places: &mut [usize],
     key: usize,
     item: T,
-    judge: &mut J,
 )
-    requires room { vec_len slots.old < vec_capacity slots.old }
+    requires room { length entries.old.items < entries.old.capacity }
     requires keyed { key < length places.old }
-    requires right { AreRight slots.old.items places.old }
-    requires absent { IsAbsent key slots.old.items }
-    ensures bag { IsSameBag ((key, item) ∷ slots.old.items) slots.new.items }
-    ensures ordered { IsHeapOrdered J.order D slots.old.items
-        → IsHeapOrdered J.order D slots.new.items }
-    ensures counted { RisesWithin (J.count judge.old) (J.count judge.new)
-        (push_bound D (length slots.old.items)) }
-    ensures right { AreRight slots.new.items places.new }
-    ensures capacity { vec_capacity slots.new ≡ vec_capacity slots.old }
+    requires right { AreRight entries.old.items places.old }
+    requires absent { IsAbsent key entries.old.items }
+    ensures gets { Gets key item entries.old.items None entries.new.items }
+    ensures ordered { IsHeapOrdered J.order D entries.new.items }
+    ensures counted { RisesWithin entries.old.comparisons entries.new.comparisons
+        (push_bound D (length entries.old.items)) }
+    ensures right { AreRight entries.new.items places.new }
+    ensures capacity { entries.new.capacity ≡ entries.old.capacity }
 {
-    let place = slots.len();
-    slots.push_reserved((key, item));
-    sift_up::<T, J, D>(slots.as_mut_slice(), places, place, judge);
+    let last = entries.len();
+    let stop = entries.push_returning_place((key, item));
+    write_path::<T, D>(entries.as_slice(), places, last, stop);
 }
 
-/// Adds a slot for a key that has none. It stands out of line: a call that has room adds it by `put`.
+/// Adds an entry for a key that has none. It stands out of line: a call that has room adds it by `put`.
 #[inline(never)]
 pub(crate) fn add<T, J: Judge<(usize, T)>, const D: usize>(
-    slots: &mut Vec<(usize, T)>,
+    entries: &mut DaryHeap<(usize, T), D, J>,
     places: &mut Vec<usize>,
     key: usize,
     item: T,
-    judge: &mut J,
 ) -> Result<(), T>
-    requires right { AreRight slots.old.items places.old.items }
-    requires absent { IsAbsent key slots.old.items }
-    ensures bag { OnOk result (IsSameBag ((key, item) ∷ slots.old.items) slots.new.items) }
-    ensures ordered { OnOk result
-        (IsHeapOrdered J.order D slots.old.items → IsHeapOrdered J.order D slots.new.items) }
-    ensures counted { OnOk result
-        (RisesWithin (J.count judge.old) (J.count judge.new) (push_bound D (length slots.old.items))) }
-    ensures right { AreRight slots.new.items places.new.items }
-    ensures capacity { vec_capacity slots.old ≤ vec_capacity slots.new }
-    ensures keys { vec_len places.old ≤ vec_len places.new }
-    ensures kept { vec_len slots.old < vec_capacity slots.old
-        → vec_capacity slots.new ≡ vec_capacity slots.old }
-    ensures keyed { key < vec_len places.old → vec_len places.new ≡ vec_len places.old }
-    ensures succeeds { vec_len slots.old < vec_capacity slots.old → key < vec_len places.old
-        → IsOk result }
-    ensures full { OnErr result
-        ((vec_len slots.old ≡ vec_capacity slots.old) ⊎ (vec_len places.old ≤ key)) }
+    requires right { AreRight entries.old.items places.old.items }
+    requires absent { IsAbsent key entries.old.items }
+    ensures gets { OnOk result (Gets key item entries.old.items None entries.new.items) }
+    ensures ordered { IsHeapOrdered J.order D entries.new.items }
+    ensures counted { OnOk result (RisesWithin entries.old.comparisons entries.new.comparisons
+        (push_bound D (length entries.old.items))) }
+    ensures right { AreRight entries.new.items places.new.items }
+    ensures made { MakesRoomFor key entries.old entries.new (vec_len places.old)
+        (vec_len places.new) (is_ok result) }
     ensures returned { IfErr result (λ back. back ≡ item) }
-    ensures unchanged { OnErr result (slots.new.items ≡ slots.old.items) }
-    ensures uncounted { OnErr result (judge.new ≡ judge.old) }
+    ensures unchanged { OnErr result (entries.new.items ≡ entries.old.items) }
+    ensures uncounted { OnErr result (entries.new.comparisons ≡ entries.old.comparisons) }
 {
-    if make_room(slots, places, key).is_err() {
+    if make_room::<T, J, D>(entries, places, key).is_err() {
         return Err(item);
     }
-    put::<T, J, D>(slots, places.as_mut_slice(), key, item, judge);
+    put::<T, J, D>(entries, places.as_mut_slice(), key, item);
     Ok(())
 }
 
-/// Puts another item into a slot, and returns the one that was there. It stands out of line, as `add` does.
+/// Puts another item into an entry, and returns the one that was there. It stands out of line: a call for a key that has
+/// none is shorter so.
 #[inline(never)]
 pub(crate) fn change<T, J: Judge<(usize, T)>, const D: usize>(
-    slots: &mut [(usize, T)],
+    entries: &mut DaryHeap<(usize, T), D, J>,
     places: &mut [usize],
     at: usize,
+    key: usize,
     item: T,
-    judge: &mut J,
 ) -> T
-    requires there { at < length slots.old }
-    requires right { AreRight slots.old places.old }
-    ensures bag { (key : ℕ) → IsEntry slots.old at key
-        → IsSameBag ((key, item) ∷ slots.old) ((key, result) ∷ slots.new) }
-    ensures has { (key : ℕ) → IsEntry slots.old at key → Contains slots.new (key, item) }
-    ensures ordered { IsHeapOrdered J.order D slots.old → IsHeapOrdered J.order D slots.new }
-    ensures counted { RisesWithin (J.count judge.old) (J.count judge.new)
-        (fix_bound D (length slots.old) at) }
-    ensures right { AreRight slots.new places.new }
+    requires there { IsEntry entries.old.items at key }
+    requires right { AreRight entries.old.items places.old }
+    ensures gets { Gets key item entries.old.items (Some result) entries.new.items }
+    ensures ordered { IsHeapOrdered J.order D entries.new.items }
+    ensures counted { RisesWithin entries.old.comparisons entries.new.comparisons
+        (fix_bound D (length entries.old.items) at) }
+    ensures right { AreRight entries.new.items places.new }
+    ensures capacity { entries.new.capacity ≡ entries.old.capacity }
 {
-    let old = mem::replace(&mut slots[at].1, item);
-    fix::<T, J, D>(slots, places, at, judge);
-    old
+    let (old, stop) = entries.replace_at_returning_place(at, (key, item));
+    write_path::<T, D>(entries.as_slice(), places, at.max(stop), at.min(stop));
+    old.1
 }
 
-/// Takes a slot out.
+/// Takes an entry out. Built into its callers, of which one takes out the first entry.
+#[inline(always)]
 pub(crate) fn take_out<T, J: Judge<(usize, T)>, const D: usize>(
-    slots: &mut Vec<(usize, T)>,
+    entries: &mut DaryHeap<(usize, T), D, J>,
     places: &mut [usize],
     at: usize,
-    judge: &mut J,
 ) -> (usize, T)
-    requires there { at < length slots.old.items }
-    requires right { AreRight slots.old.items places.old }
-    ensures taken { slice_get slots.old.items at ≡ Some result }
-    ensures gone { IsAbsent result.0 slots.new.items }
-    ensures bag { IsSameBag slots.old.items (result ∷ slots.new.items) }
-    ensures ordered { IsHeapOrdered J.order D slots.old.items
-        → IsHeapOrdered J.order D slots.new.items }
-    ensures counted { RisesWithin (J.count judge.old) (J.count judge.new)
-        (pop_bound D (length slots.old.items)) }
-    ensures right { AreRight slots.new.items places.new }
-    ensures capacity { vec_capacity slots.new ≡ vec_capacity slots.old }
+    requires there { at < length entries.old.items }
+    requires right { AreRight entries.old.items places.old }
+    ensures taken { slice_get entries.old.items at ≡ Some result }
+    ensures gone { IsAbsent result.0 entries.new.items }
+    ensures bag { IsSameBag entries.old.items (result ∷ entries.new.items) }
+    ensures ordered { IsHeapOrdered J.order D entries.new.items }
+    ensures counted { RisesWithin entries.old.comparisons entries.new.comparisons
+        (pop_bound D (length entries.old.items)) }
+    ensures right { AreRight entries.new.items places.new }
+    ensures capacity { entries.new.capacity ≡ entries.old.capacity }
+    ensures leaves_room { length entries.new.items < entries.new.capacity }
 {
-    let slot = slots.swap_remove(at);
-    if slots.len() <= at {
-        return slot;
+    let (entry, stop) = entries.remove_at_returning_place(at);
+    if entries.len() <= at {
+        return entry;
     }
-    if at == 0 {
-        sift_to_bottom::<T, J, D>(slots.as_mut_slice(), places, judge);
-        return slot;
-    }
-    fix::<T, J, D>(slots.as_mut_slice(), places, at, judge);
-    slot
+    write_path::<T, D>(entries.as_slice(), places, at.max(stop), at.min(stop));
+    entry
 }
 
-/// Gives a key an item, and returns the one that it had.
-pub(crate) fn set<T, J: Judge<(usize, T)>, const D: usize>(
-    slots: &mut Vec<(usize, T)>,
-    places: &mut Vec<usize>,
-    key: usize,
-    item: T,
-    judge: &mut J,
-) -> Result<Option<T>, T>
-    requires { AreRight slots.old.items places.old.items }
-    ensures gets { IfOk result (λ given. Gets key item slots.old.items given slots.new.items) }
-    ensures ordered { IsHeapOrdered J.order D slots.old.items
-        → IsHeapOrdered J.order D slots.new.items }
-    ensures counted { OnOk result (InsertsWithin D key slots.old.items (J.count judge.old)
-        (J.count judge.new)) }
-    ensures right { AreRight slots.new.items places.new.items }
-    ensures capacity { vec_capacity slots.old ≤ vec_capacity slots.new }
-    ensures keys { vec_len places.old ≤ vec_len places.new }
-    ensures kept { vec_len slots.old < vec_capacity slots.old
-        → vec_capacity slots.new ≡ vec_capacity slots.old }
-    ensures keyed { key < vec_len places.old → vec_len places.new ≡ vec_len places.old }
-    ensures succeeds { vec_len slots.old < vec_capacity slots.old → key < vec_len places.old
-        → IsOk result }
-    ensures present { (at : ℕ) → IsEntry slots.old.items at key → IsOk result }
-    ensures roomy { (at : ℕ) → IsEntry slots.old.items at key
-        → vec_capacity slots.new ≡ vec_capacity slots.old }
-    ensures full { OnErr result (IsAbsent key slots.old.items
-        × ((vec_len slots.old ≡ vec_capacity slots.old) ⊎ (vec_len places.old ≤ key))) }
-    ensures returned { IfErr result (λ back. back ≡ item) }
-    ensures unchanged { OnErr result (slots.new.items ≡ slots.old.items) }
-    ensures uncounted { OnErr result (judge.new ≡ judge.old) }
-{
-    let Some(at) = place_of(slots.as_slice(), places.as_slice(), key) else {
-        if has_room(slots, places, key) {
-            put::<T, J, D>(slots, places.as_mut_slice(), key, item, judge);
-            return Ok(None);
-        }
-        add::<T, J, D>(slots, places, key, item, judge)?;
-        return Ok(None);
-    };
-    Ok(Some(change::<T, J, D>(slots.as_mut_slice(), places.as_mut_slice(), at, item, judge)))
-}
-
-/// Takes the slot of a key out, and returns its item.
-pub(crate) fn unset<T, J: Judge<(usize, T)>, const D: usize>(
-    slots: &mut Vec<(usize, T)>,
-    places: &mut [usize],
-    key: usize,
-    judge: &mut J,
-) -> Option<T>
-    requires { AreRight slots.old.items places.old }
-    ensures loses { Loses key slots.old.items result slots.new.items }
-    ensures gone { IsAbsent key slots.new.items }
-    ensures capacity { vec_capacity slots.new ≡ vec_capacity slots.old }
-    ensures ordered { IsHeapOrdered J.order D slots.old.items
-        → IsHeapOrdered J.order D slots.new.items }
-    ensures counted { RisesWithin (J.count judge.old) (J.count judge.new)
-        (pop_bound D (length slots.old.items)) }
-    ensures right { AreRight slots.new.items places.new }
-    ensures unchanged { IfNone result (slots.new ≡ slots.old) }
-    ensures uncounted { IfNone result (judge.new ≡ judge.old) }
-{
-    let at = place_of(slots.as_slice(), places, key)?;
-    let (_, item) = take_out::<T, J, D>(slots, places, at, judge);
-    Some(item)
-}
-
-/// Gives a key an item unless it has one that is at least as great. Returns `true` if it has the new one.
-pub(crate) fn raise<T: Drop, J: Judge<(usize, T)>, const D: usize>(
-    slots: &mut Vec<(usize, T)>,
-    places: &mut Vec<usize>,
-    key: usize,
-    item: T,
-    judge: &mut J,
-) -> Result<bool, T>
-    requires { AreRight slots.old.items places.old.items }
-    ensures raised { IfOk result (λ b. OnTrue b
-        (Raises J.order key item slots.old.items slots.new.items)) }
-    ensures reached { IfOk result (λ b. OnFalse b
-        (IsReached J.order key item slots.old.items × (slots.new.items ≡ slots.old.items))) }
-    ensures ordered { IsHeapOrdered J.order D slots.old.items
-        → IsHeapOrdered J.order D slots.new.items }
-    ensures counted { OnOk result (RisesWithin (J.count judge.old) (J.count judge.new)
-        (push_bound D (length slots.old.items) + 1)) }
-    ensures right { AreRight slots.new.items places.new.items }
-    ensures capacity { vec_capacity slots.old ≤ vec_capacity slots.new }
-    ensures keys { vec_len places.old ≤ vec_len places.new }
-    ensures kept { vec_len slots.old < vec_capacity slots.old
-        → vec_capacity slots.new ≡ vec_capacity slots.old }
-    ensures keyed { key < vec_len places.old → vec_len places.new ≡ vec_len places.old }
-    ensures succeeds { vec_len slots.old < vec_capacity slots.old → key < vec_len places.old
-        → IsOk result }
-    ensures present { (at : ℕ) → IsEntry slots.old.items at key → IsOk result }
-    ensures roomy { (at : ℕ) → IsEntry slots.old.items at key
-        → vec_capacity slots.new ≡ vec_capacity slots.old }
-    ensures full { OnErr result (IsAbsent key slots.old.items
-        × ((vec_len slots.old ≡ vec_capacity slots.old) ⊎ (vec_len places.old ≤ key))) }
-    ensures returned { IfErr result (λ back. back ≡ item) }
-    ensures unchanged { OnErr result (slots.new.items ≡ slots.old.items) }
-    ensures uncounted { OnErr result (judge.new ≡ judge.old) }
-{
-    let Some(at) = place_of(slots.as_slice(), places.as_slice(), key) else {
-        if has_room(slots, places, key) {
-            put::<T, J, D>(slots, places.as_mut_slice(), key, item, judge);
-            return Ok(true);
-        }
-        add::<T, J, D>(slots, places, key, item, judge)?;
-        return Ok(true);
-    };
-    Ok(lift::<T, J, D>(
-        slots.as_mut_slice(),
-        places.as_mut_slice(),
-        at,
-        key,
-        item,
-        judge,
-    ))
-}
-
-/// Puts a greater item into a slot. Returns `false`, and drops the item, if it isn't greater.
-fn lift<T: Drop, J: Judge<(usize, T)>, const D: usize>(
-    slots: &mut [(usize, T)],
+/// Puts a greater item into an entry. Returns `false`, and drops the item, if it isn't greater.
+pub(crate) fn lift<T: Drop, J: Judge<(usize, T)>, const D: usize>(
+    entries: &mut DaryHeap<(usize, T), D, J>,
     places: &mut [usize],
     at: usize,
     key: usize,
     item: T,
-    judge: &mut J,
 ) -> bool
-    requires inside { at < length slots.old }
-    requires there { IsEntry slots.old at key }
-    requires right { AreRight slots.old places.old }
-    ensures raised { OnTrue result ((less : T)
-        × IsSameBag ((key, item) ∷ slots.old) ((key, less) ∷ slots.new)
-        × (J.order (key, item) (key, less) ≡ Greater)
-        × Contains slots.new (key, item)) }
-    ensures reached { OnFalse result ((held : T)
-        × Contains slots.old (key, held)
-        × (J.order (key, item) (key, held) ≢ Greater)
-        × (slots.new ≡ slots.old)) }
-    ensures ordered { IsHeapOrdered J.order D slots.old → IsHeapOrdered J.order D slots.new }
-    ensures counted { RisesWithin (J.count judge.old) (J.count judge.new)
+    requires there { IsEntry entries.old.items at key }
+    requires right { AreRight entries.old.items places.old }
+    ensures raised { OnTrue result
+        (Raises J.order key item entries.old.items entries.new.items) }
+    ensures reached { OnFalse result (IsReached J.order key item entries.old.items
+        × (entries.new.items ≡ entries.old.items)) }
+    ensures ordered { IsHeapOrdered J.order D entries.new.items }
+    ensures counted { RisesWithin entries.old.comparisons entries.new.comparisons
         (depth D at + 1) }
-    ensures right { AreRight slots.new places.new }
+    ensures right { AreRight entries.new.items places.new }
+    ensures capacity { entries.new.capacity ≡ entries.old.capacity }
 {
-    let slot = (key, item);
-    if judge.at_most(&slot, &slots[at]) {
+    let Ok((_, stop)) = entries.raise_at_returning_place(at, (key, item)) else {
         return false;
-    }
-    slots[at] = slot;
-    sift_up::<T, J, D>(slots, places, at, judge);
+    };
+    write_path::<T, D>(entries.as_slice(), places, at, stop);
     true
 }

@@ -1,6 +1,7 @@
 //! The workloads over a `BTreeSet` of items with their keys, and a vector that has the item of each key.
 
 use crate::workload::{Call, Change, Task, CHANGES};
+use std::cmp::Reverse;
 use std::collections::BTreeSet;
 use std::mem;
 
@@ -104,26 +105,62 @@ fn search(task: &Task, out: &mut [u64]) {
     let graph = task.graph();
     for (place, goal) in out.iter_mut().zip(&task.items) {
         let goal = *goal as usize;
-        *place = costs(&graph, goal)[goal];
+        *place = costs(&graph, goal, false).0[goal];
     }
 }
 
-/// The least costs of walks from node 0 to the nodes that come out up to the goal. They tell what a node has in the set.
-pub fn costs(graph: &[Vec<Change>], goal: usize) -> Vec<u64> {
+/// The least costs of walks from node 0 to the nodes that come out up to the goal, which tell what a node has in the set,
+/// and how many entries there were at most. With `keeps_stale` an entry stays when its node gets a lower cost.
+pub fn costs(graph: &[Vec<Change>], goal: usize, keeps_stale: bool) -> (Vec<u64>, usize) {
     let mut costs = vec![u64::MAX; graph.len()];
-    let mut nodes = BTreeSet::from([(0, 0)]);
+    let mut nodes = BTreeSet::from([(0, Reverse(0))]);
     costs[0] = 0;
-    while let Some((cost, node)) = nodes.pop_first().filter(|(_, node)| *node != goal) {
+    let mut most = 1;
+    while let Some((cost, Reverse(node))) = nodes.pop_first() {
+        if node == goal {
+            break;
+        }
+        if cost > costs[node] {
+            continue;
+        }
         for edge in &graph[node] {
             let (known, cost) = (&mut costs[edge.key], cost + edge.item);
             if cost < *known {
-                if *known != u64::MAX {
-                    nodes.remove(&(*known, edge.key));
+                if *known != u64::MAX && !keeps_stale {
+                    nodes.remove(&(*known, Reverse(edge.key)));
                 }
-                nodes.insert((cost, edge.key));
+                nodes.insert((cost, Reverse(edge.key)));
                 *known = cost;
             }
         }
+        most = most.max(nodes.len());
     }
-    costs
+    (costs, most)
+}
+
+#[cfg(test)]
+mod tests {
+    use super::{costs, Change};
+
+    /// Node 0 leads to the nodes 1, 2 and 3 at these costs, each of them to itself, and node 2 to node 1 at 2.
+    fn most_to(goal: usize, from_start: [u64; 3], keeps_stale: bool) -> usize {
+        let edge = |key, item| Change { key, item };
+        let first = (1..).zip(from_start).map(|(key, item)| edge(key, item));
+        let graph = [
+            first.collect(),
+            vec![edge(1, 1)],
+            vec![edge(1, 2)],
+            vec![edge(3, 1)],
+        ];
+        costs(&graph, goal, keeps_stale).1
+    }
+
+    #[test]
+    fn entries_are_counted() {
+        for keeps_stale in [false, true] {
+            assert_eq!(most_to(1, [3, 2, 1], keeps_stale), 3);
+        }
+        assert_eq!(most_to(3, [9, 1, 20], false), 3);
+        assert_eq!(most_to(3, [9, 1, 20], true), 3);
+    }
 }

@@ -1,5 +1,6 @@
 //! The table: its rows are printed as they come.
 
+use crate::pairs;
 use crate::peak;
 use crate::rivals::{rivals, run, Heap, Rival, ARITIES};
 use crate::workload::{Call, Task};
@@ -64,6 +65,11 @@ pub fn counts_row(name: &str, keys: usize, task: &Task) -> String {
         let mut out = [0; 2];
         run(rival, Call::Count, task, &mut out).map(|_| out[which])
     };
+    // The libraries here count comparisons alone. A heap of the same entries has as many at a time.
+    let most = |rival: Rival| match rival.0 {
+        Heap::Boost => count(rival, 1),
+        heap => Some(most(task, heap == Heap::Stale)),
+    };
     let comparisons = |made| format!("{:.2}", made as f64 / task.count as f64);
     let megabytes = |bytes| format!("{:.2}", bytes as f64 / 1e6);
     let counting = rivals(Call::Search)
@@ -72,10 +78,16 @@ pub fn counts_row(name: &str, keys: usize, task: &Task) -> String {
     let made: String = counting
         .map(|rival| cell(count(rival, 0).map(comparisons)))
         .collect();
-    let most = EACH.map(|rival| count(rival, 1).map(|most| most.to_string()));
+    let most = EACH.map(|rival| most(rival).map(|most| most.to_string()));
     let taken = EACH.map(|rival| cell(taken(rival, task).map(megabytes)));
     let most: String = most.into_iter().take(3).map(cell).collect();
     format!("|{name}|{keys}|{made}{most}{}", taken.concat())
+}
+
+/// How many entries a search has at most: one of a node, or with stale ones one of each cost that was found for it.
+fn most(task: &Task, keeps_stale: bool) -> u64 {
+    let goal = task.items.first().map_or(usize::MAX, |goal| *goal as usize);
+    pairs::costs(&task.graph(), goal, keeps_stale).1 as u64
 }
 
 /// A cell, which is empty if there is no text.

@@ -19,7 +19,7 @@ pub enum Call {
     Reprioritise,
     /// A search for the cheapest walk from node 0 to another.
     Search,
-    /// The same over a heap that counts: the comparisons, and how many entries there were at most.
+    /// The same over a heap that counts: the comparisons, and in C++ how many entries there were at most too.
     Count,
 }
 
@@ -166,7 +166,7 @@ fn of_edges(edges: Vec<Change>, degree: usize) -> Task {
         changes: edges,
         ..Task::default()
     };
-    let costs = pairs::costs(&task.graph(), usize::MAX);
+    let (costs, _) = pairs::costs(&task.graph(), usize::MAX, false);
     let reached = (0..costs.len()).filter(|node| costs[*node] < u64::MAX);
     let farthest = reached.max_by_key(|node| costs[*node]);
     task.items.extend(farthest.map(|node| node as u64));

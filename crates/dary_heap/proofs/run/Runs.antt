@@ -1,7 +1,7 @@
 -- A run goes on by one command. What it asks of the caller, and the items that it brings in, are among those of all commands.
 use Rattle.dary_heap.proofs.Common.{◌≡◌, ℕ, ◌+◌, ◌≤◌, Bool, List, [], ◌∷◌, ◌++◌, length, refl, ap, arith, Ordering, charge, Contents, Command, Reply, Step, Steps, last_state, IsState, IsServed}
 use Rattle.dary_heap.proofs.Common.{Runs, Serves, room, sure_after, All, Contains, sym, subst, append_assoc, All-contains, All-contains_itself, All-weaker, Contains-append_left}
-use Rattle.dary_heap.proofs.Common.{Contains-append_right, Mut, Bor, IsCallableOn, items_in, predicates_in, zero-le}
+use Rattle.dary_heap.proofs.Common.{Contains-append_right, Mut, Bor, IsCallableOn, MayCall, items_in, zero-le}
 use Rattle.dary_heap.specs.Bounds.{charges}
 use Rattle.dary_heap.specs.Run.{PushesServed, sure_at_end}
 use Rattle.dary_heap.specs.Machine as machine
@@ -67,25 +67,23 @@ module _ {T P : Type 0} where
   items_in-append (machine.Push x ∷ xs) ys = ap (λ zs. x ∷ zs) (items_in-append xs ys)
   items_in-append (command ∷ xs) ys = simp (items_in-append xs ys, append_assoc)
 
-  predicates_in-append : (xs ys : List (Command T P)) → predicates_in (xs ++ ys) ≡ predicates_in xs ++ predicates_in ys
-  predicates_in-append [] ys = refl
-  predicates_in-append (machine.Ask p ∷ xs) ys = ap (λ zs. p ∷ zs) (predicates_in-append xs ys)
-  predicates_in-append (command ∷ xs) ys = simp (predicates_in-append xs ys)
-
   -- the items of one command are among those of all
   pub items_of_one : (before : List (Command T P)) (command : Command T P) (after : List (Command T P)) (x : T) → Contains (items_in (command ∷ [])) x →
       Contains (items_in (before ++ (command ∷ after))) x
   items_of_one before command after x in' = of_one items_in items_in-append before command after x in'
 
   module _ (calls : Mut P (Bor T × Unit {0}) Bool) where
-    pub IsCallableOn-fewer : (pool items : List T) (p : P) → ((x : T) → Contains items x → Contains pool x) → IsCallableOn calls pool p → IsCallableOn calls items p
-    IsCallableOn-fewer pool items p among h = record { in_turn = λ xs in'. h.in_turn xs (λ x here. among x (in' x here)) }
+    -- a predicate that may be called on many items may be called on those that are among them
+    MayCall-fewer : (pool items : List T) (command : Command T P) → ((x : T) → Contains items x → Contains pool x) → MayCall calls pool command → MayCall calls items command
+    MayCall-fewer pool items command among h = record {
+      pop_if = λ p is x in'. h.pop_if p is x (among x in');
+      ask = λ p is x in'. h.ask p is x (among x in');
+      retain = λ p is. record { in_turn = λ xs in'. (h.retain p is).in_turn xs (λ x here. among x (in' x here)) };
+    }
 
-    -- the predicates of one command may be called where those of all may be
+    -- the predicate of one command may be called where those of all may be
     pub callable_one : (pool items : List T) (before : List (Command T P)) (command : Command T P) (after : List (Command T P)) → ((x : T) → Contains items x → Contains pool x) →
-        All (IsCallableOn calls pool) (predicates_in (before ++ (command ∷ after))) → All (IsCallableOn calls items) (predicates_in (command ∷ []))
+        All (MayCall calls pool) (before ++ (command ∷ after)) → MayCall calls items command
     callable_one pool items before command after among h =
-        let wanted = predicates_in (command ∷ []) in
-        let callable = λ (p : P) (in' : Contains wanted p). IsCallableOn-fewer pool items p among
-        (All-contains (IsCallableOn calls pool) _ p h (of_one predicates_in predicates_in-append before command after p in')) in
-        All-weaker (Contains wanted) (IsCallableOn calls items) callable wanted (All-contains_itself wanted)
+        let there : Contains (before ++ (command ∷ after)) command = Contains-append_right before (command ∷ after) command (0, omega arith, refl) in
+        MayCall-fewer pool items command among (All-contains (MayCall calls pool) _ command h there)

@@ -1,9 +1,9 @@
 -- What a search examined and pushed so far. No node's edges are examined twice, since states come out in the order of their cost and no state is pushed twice.
 use Rattle.dary_heap.proofs.Common.{◌≡◌, ℕ, zero, suc, ◌+◌, ◌-◌, ◌*◌, ◌<◌, ◌≤◌, false, nat_eq, inl, inr, List, [], ◌∷◌, ◌++◌, length, map, take, drop, Contains, arith, get_or, get_or-set_same}
-use Rattle.dary_heap.proofs.Common.{get_or-set_other, refl, sym, ap, ◌∙◌, subst, append_assoc, append-nil, length-append, length_permutation, Some, slice_get, Vec, mul-le-mul_left, mul-le-mul_right}
+use Rattle.dary_heap.proofs.Common.{get_or-set_other, refl, sym, ap, ◌∙◌, subst, append_assoc, append-nil, length-append, length_permutation, Some, slice_get, Vec, mul-le-mul_left, mul-le-mul_right, mul-le-mul}
 use Rattle.dary_heap.proofs.Common.{true≢false, cases_lt, get_or_past, length-take-le, take-append-drop, All-contains_itself, All-weaker, recursion_from_All, IsPermutation-sym}
 use Rattle.dary_heap.proofs.Common.{IsPermutation-to_front, sum_by-set, IsDistinct-IsPermutation, IsDistinct-cons, IsDistinct-head, IsDistinct-tail, nat_eq_equiv, unsigned_Decides, Global}
-use Rattle.dary_heap.proofs.Common.{AllByRecursion, IsDistinct, sum_by, IsSameBag, RisesWithin, push_bound, pop_bound, Contents, Pushes, AreExaminedOnce, edges_of, all_edges_of, state, Relaxes}
+use Rattle.dary_heap.proofs.Common.{AllByRecursion, IsDistinct, sum_by, IsSameBag, RisesWithin, push_bound, pop_bound, search_bound, Contents, Pushes, AreExaminedOnce, edges_of, all_edges_of, state, Relaxes}
 use Rattle.dary_heap.proofs.Common.{Graph, Edge, State, set, ne_eqb, Contains-push_cases, sum_by-cons, sum-map, AreExamined, AreApart}
 use Rattle.dary_heap.proofs.{came_alone, came_first, came_later, holds_none, depth-later, times_depth-later}
 use Rattle.dary_heap.proofs.shortest_path.Apart.{apart_more, apart_less, not_twice}
@@ -167,20 +167,20 @@ unfolding once_begins none_examined
 once_begins_nodes limit g found start within bag none = refl
 
 -- how many states were taken so far, and what the pushes and pops cost, where so many edges were examined
-pub record IsCharged (old : ℕ) (heap : Contents State) (examined : ℕ) : Type 0 where
+pub record IsCharged (D old : ℕ) (heap : Contents State) (examined : ℕ) : Type 0 where
   pub pops : ℕ
   pub few : pops + length heap.items ≤ examined + 1
-  pub counted : RisesWithin old heap.comparisons ((pops + length heap.items) * push_bound 3 examined + pops * pop_bound 3 (examined + 1))
+  pub counted : RisesWithin old heap.comparisons ((pops + length heap.items) * push_bound D examined + pops * pop_bound D (examined + 1))
 
-pub charged_begins : (old new : Contents State) → old.items ≡ [] → length new.items ≡ length old.items + 1 → RisesWithin old.comparisons new.comparisons (push_bound 3 (length old.items)) →
-    IsCharged old.comparisons new 0
-charged_begins old new none one push =
+pub charged_begins : {D : ℕ} (old new : Contents State) → old.items ≡ [] → length new.items ≡ length old.items + 1 → RisesWithin old.comparisons new.comparisons (push_bound D (length old.items)) →
+    IsCharged D old.comparisons new 0
+charged_begins {D} old new none one push =
     let single : length new.items ≡ 1 = omega (arith, one, ap length none) in
     record { pops = 0; few = omega (arith, single); counted = rw single (record { rises = push.rises; within = omega (arith, rw none at push.within) }) }
 
-pub charged_pop : {start examined : ℕ} {old new : Contents State} {s : State} → IsCharged start old examined → IsSameBag old.items (s ∷ new.items) →
-    RisesWithin old.comparisons new.comparisons (pop_bound 3 (length old.items)) → IsCharged start new examined
-charged_pop {start} {examined} {old} {new} h bag pop =
+pub charged_pop : {D start examined : ℕ} {old new : Contents State} {s : State} → IsCharged D start old examined → IsSameBag old.items (s ∷ new.items) →
+    RisesWithin old.comparisons new.comparisons (pop_bound D (length old.items)) → IsCharged D start new examined
+charged_pop {D} {start} {examined} {old} {new} h bag pop =
     let one : length old.items ≡ length new.items + 1 = omega (arith, length_permutation _ _ bag) in
     let before = rw one at h.counted in
     let last = rw one at pop in
@@ -189,13 +189,13 @@ charged_pop {start} {examined} {old} {new} h bag pop =
       few = omega (arith, h.few, one);
       counted = record {
         rises = omega (arith, before.rises, last.rises);
-        within = omega (arith, before.within, last.within, times_depth-later 3 (length new.items + 1 - 2) (examined + 1 - 2) (omega (arith, h.few, one)));
+        within = omega (arith, before.within, last.within, times_depth-later D (length new.items + 1 - 2) (examined + 1 - 2) (omega (arith, h.few, one)));
       };
     }
 
-pub charged_push : {start : ℕ} {edges before after : List Edge} {old new : Contents State} → IsCharged start old (length before) → AreExamined edges before after old new →
-    IsCharged start new (length after)
-charged_push {before = before} {after} {old} {new} h so_far =
+pub charged_push : {D start : ℕ} {edges before after : List Edge} {old new : Contents State} → IsCharged D start old (length before) → AreExamined D edges before after old new →
+    IsCharged D start new (length after)
+charged_push {D} {before = before} {after} {old} {new} h so_far =
     let push = so_far.pushes in
     let most = length before + length so_far.these in
     let came = length new.items - length old.items in
@@ -210,25 +210,37 @@ charged_push {before = before} {after} {old} {new} h so_far =
           arith,
           h.counted.within,
           push.counted.within,
-          mul-le-mul_left (h.pops + length old.items) (depth-later 3 (length before) most (omega arith)),
-          mul-le-mul_left came (depth-later 3 (length new.items - 1) most (omega (arith, h.few, push.few))),
-          mul-le-mul_left h.pops (times_depth-later 3 (length before + 1 - 2) (most + 1 - 2) (omega arith)),
+          mul-le-mul_left (h.pops + length old.items) (depth-later D (length before) most (omega arith)),
+          mul-le-mul_left came (depth-later D (length new.items - 1) most (omega (arith, h.few, push.few))),
+          mul-le-mul_left h.pops (times_depth-later D (length before + 1 - 2) (most + 1 - 2) (omega arith)),
         );
       };
     }
 
-pub charged_ends : {start examined : ℕ} {heap : Contents State} → IsCharged start heap examined →
-    RisesWithin start heap.comparisons ((examined + 1) * (push_bound 3 examined + pop_bound 3 (examined + 1)))
-charged_ends {start} {examined} {heap} h =
+pub charged_ends : {D start examined : ℕ} {heap : Contents State} → IsCharged D start heap examined →
+    RisesWithin start heap.comparisons (search_bound D examined)
+charged_ends {D} {start} {examined} {heap} h =
     let some : h.pops ≤ examined + 1 = omega (arith, h.few) in
     record {
       rises = h.counted.rises;
-      within = omega (arith, h.counted.within, mul-le-mul_right (push_bound 3 examined) h.few, mul-le-mul_right (pop_bound 3 (examined + 1)) some);
+      within = omega (arith, h.counted.within, mul-le-mul_right (push_bound D examined) h.few, mul-le-mul_right (pop_bound D (examined + 1)) some);
     }
 
+-- a search that examines more edges may compare more often
+pub search_more : (D : ℕ) {start after few most : ℕ} → few ≤ most → RisesWithin start after (search_bound D few) → RisesWithin start after (search_bound D most)
+search_more D {few = few} {most} h charged = record {
+  rises = charged.rises;
+  within = omega (
+    arith,
+    charged.within,
+    mul-le-mul {n₁ = few + 1} {m₁ = push_bound D few + pop_bound D (few + 1)} {n₂ = most + 1} {m₂ = push_bound D most + pop_bound D (most + 1)} (omega (arith, h))
+        (omega (arith, depth-later D few most h, times_depth-later D (few + 1 - 2) (most + 1 - 2) (omega (arith, h)))),
+  );
+}
+
 -- pushes after pushes
-pub pushes_more : {m n : ℕ} {old mid new : Contents State} → Pushes m old mid → Pushes n mid new → Pushes (m + n) old new
-pushes_more {old = old} {mid} {new} a b =
+pub pushes_more : {D m n : ℕ} {old mid new : Contents State} → Pushes D m old mid → Pushes D n mid new → Pushes D (m + n) old new
+pushes_more {D} {old = old} {mid} {new} a b =
     let first = length mid.items - length old.items in
     let both : length new.items - length old.items ≡ first + (length new.items - length mid.items) = omega (arith, a.more, b.more) in
     record {
@@ -236,7 +248,7 @@ pushes_more {old = old} {mid} {new} a b =
       few = omega (arith, a.few, b.few);
       counted = rw both record {
         rises = omega (arith, a.counted.rises, b.counted.rises);
-        within = omega (arith, a.counted.within, b.counted.within, mul-le-mul_left first (depth-later 3 (length mid.items - 1) (length new.items - 1) (omega (arith, b.more))));
+        within = omega (arith, a.counted.within, b.counted.within, mul-le-mul_left first (depth-later D (length mid.items - 1) (length new.items - 1) (omega (arith, b.more))));
       };
     }
 
@@ -277,11 +289,11 @@ once_few {g} {examined} once =
 pub examined_more : (start old new these : List Edge) (e : Edge) → new ≡ old ++ e ∷ [] → old ≡ start ++ these → new ≡ start ++ (these ++ e ∷ [])
 examined_more start old new these e more so_far = more ∙ (ap (λ (es : List Edge). es ++ e ∷ []) so_far ∙ append_assoc start these (e ∷ []))
 
-pub examined_part : (edges before after : List Edge) {old new : Contents State} (n : ℕ) → n ≤ length edges → after ≡ before ++ take n edges → Pushes n old new → AreExamined edges before after old new
-examined_part edges before after {old} {new} n within so_far pushes = record {
+pub examined_part : {D : ℕ} (edges before after : List Edge) {old new : Contents State} (n : ℕ) → n ≤ length edges → after ≡ before ++ take n edges → Pushes D n old new → AreExamined D edges before after old new
+examined_part {D} edges before after {old} {new} n within so_far pushes = record {
   these = take n edges;
   others = drop n edges;
   first = sym (take-append-drop n edges);
   examined = so_far;
-  pushes = subst (λ (m : ℕ). Pushes m old new) (sym (length-take-le n edges within)) pushes;
+  pushes = subst (λ (m : ℕ). Pushes D m old new) (sym (length-take-le n edges within)) pushes;
 }

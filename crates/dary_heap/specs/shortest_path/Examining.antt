@@ -8,18 +8,18 @@ use Rattle.dary_heap.specs.declared.shortest_path.Edge.{Edge}
 use Rattle.dary_heap.specs.declared.shortest_path.State.{State}
 
 -- the heap has no fewer states and at most so many more, and no more comparisons were made than pushes of those take
-pub record Pushes (most : ℕ) (old new : Contents State) : Type 0 where
+pub record Pushes (D most : ℕ) (old new : Contents State) : Type 0 where
   pub more : length old.items ≤ length new.items
   pub few : length new.items ≤ length old.items + most
-  pub counted : RisesWithin old.comparisons new.comparisons ((length new.items - length old.items) * push_bound 3 (length new.items - 1))
+  pub counted : RisesWithin old.comparisons new.comparisons ((length new.items - length old.items) * push_bound D (length new.items - 1))
 
 -- of these edges the first ones were examined in their order, each once, with a push for each at most
-pub record AreExamined (edges before after : List Edge) (old new : Contents State) : Type 0 where
+pub record AreExamined (D : ℕ) (edges before after : List Edge) (old new : Contents State) : Type 0 where
   pub these : List Edge
   pub others : List Edge
   pub first : edges ≡ these ++ others
   pub examined : after ≡ before ++ these
-  pub pushes : Pushes (length these) old new
+  pub pushes : Pushes D (length these) old new
 
 -- the edges that leave a node
 abbrev pub edges_of : Graph → ℕ → List Edge

@@ -1,7 +1,7 @@
 -- What the choice of the greatest child of a hole's place finds. Only private functions speak of these.
 use Rattle.std.specs.Prelude.{◌≡◌, ℕ, ◌+◌, ◌-◌, ◌*◌, ◌<◌, ◌≤◌, List, length, Option, Some, slice_get, IfSome, IfNone}
 use Rattle.std.specs.declared.cmp.Ordering.{Ordering}
-use Rattle.dary_heap.specs.declared.hole.places.Hole.{Hole}
+use Rattle.dary_heap.specs.declared.hole.pointers.Hole.{Hole}
 use Rattle.dary_heap.specs.HeapOrder.{arity, IsLastGreatestChild}
 use Rattle.dary_heap.specs.hole.Hole.{filled}
 use Rattle.dary_heap.specs.sift.Sifting.{IsLastGreatest, children}

@@ -5,8 +5,7 @@ ghost use Rattle.dary_heap.specs.Bounds.{RisesWithin, fix_bound};
 ghost use Rattle.dary_heap.specs.HeapOrder.{IsHeapOrdered};
 
 use super::DaryHeap;
-use crate::sift::{Judge, fix_with, remove_with};
-use std::mem;
+use crate::sift::Judge;
 
 impl<T, const D: usize, J: Judge<T>> DaryHeap<T, D, J> {
     /// Removes the item at a place and returns it.
@@ -41,8 +40,8 @@ impl<T, const D: usize, J: Judge<T>> DaryHeap<T, D, J> {
             (fix_bound D (length self.old.items - 1) place) }
         ensures capacity { self.new.capacity ≡ self.old.capacity }
     {
-        remove_with::<T, J, D>(self.items.as_mut_slice(), place, &mut self.judge);
-        self.items.take_last()
+        let (item, _) = self.remove_at_returning_place(place);
+        item
     }
 
     /// Puts another item at a place, and returns the one that was there.
@@ -79,8 +78,7 @@ impl<T, const D: usize, J: Judge<T>> DaryHeap<T, D, J> {
             (fix_bound D (length self.old.items) place) }
         ensures capacity { self.new.capacity ≡ self.old.capacity }
     {
-        let old = mem::replace(&mut self.items[place], item);
-        fix_with::<T, J, D>(self.items.as_mut_slice(), place, &mut self.judge);
+        let (old, _) = self.replace_at_returning_place(place, item);
         old
     }
 }

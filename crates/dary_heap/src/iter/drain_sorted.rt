@@ -26,8 +26,9 @@ use std::iter::FusedIterator;
 /// assert_eq!(rt; items.next(), Some(4));
 /// assert_eq!(rt; items.len(), 1);
 /// ```
-// Its methods call functions of the heap's fields: a call of the heap's own would have to know that a
-// heap with any judge has less than 2^63 bytes.
+// Its methods pass the heap's fields to `pop_ordered` and don't call `pop`. Who calls a method of a heap has to prove
+// that a heap with this judge has less than 2^63 bytes. A function that takes a heap knows it of its parameter; one that
+// takes a type with a reference to a heap doesn't.
 pub struct DrainSorted<'a, T: Drop, const D: usize, J: Judge<T> = ByOrd> {
     heap: &'a mut DaryHeap<T, D, J>,
 }

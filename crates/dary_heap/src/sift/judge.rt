@@ -1,5 +1,5 @@
 //! Comparisons that are counted.
-ghost use Rattle.std.specs.Prelude.{◌≡◌, ℕ, ◌+◌, ◌-◌, ◌^◌, min, ⊤};
+ghost use Rattle.std.specs.Prelude.{◌≡◌, refl, ℕ, ◌+◌, ◌-◌, ◌^◌, min, ⊤};
 ghost use Rattle.std.specs.declared.cmp.Ordering.{Ordering};
 ghost use Rattle.std.specs.Ordering.{is_le, flip_args};
 ghost use Rattle.std.specs.Cmp.{IsTotalOrder, back_total};
@@ -66,6 +66,23 @@ pub trait Judge<T> {
     ghost total: { IsTotalOrder order };
 }
 
+/// A judge whose order is that of `Ord`. A search takes any heap that compares by one.
+///
+/// # Examples
+///
+/// ```
+/// use dary_heap::sift::{ByOrd, JudgesByOrd, Tally};
+/// fn is_greater<T: Ord, J: JudgesByOrd<T>>(a: &T, b: &T, judge: &mut J) -> bool {
+///     !judge.at_most(a, b)
+/// }
+/// assert!(rt; is_greater(&3, &2, &mut ByOrd::new()));
+/// assert!(rt; !is_greater(&2, &2, &mut Tally::new()));
+/// ```
+pub trait JudgesByOrd<T: Ord>: Judge<T> {
+    /// Its order is that of `Ord`.
+    ghost by_ord: { Self.order ≡ T.cmp };
+}
+
 /// Judges by `Ord`. Its count takes no bytes.
 ///
 /// A clause sees it as the number of its comparisons.
@@ -122,6 +139,10 @@ impl<T: Ord> Judge<T> for ByOrd {
         self.count.add_one();
         a.cmp(b).is_le()
     }
+}
+
+impl<T: Ord> JudgesByOrd<T> for ByOrd {
+    ghost by_ord = { refl };
 }
 
 /// Judges by `Ord`, and keeps its count at run time too.
@@ -188,6 +209,10 @@ impl<T: Ord> Judge<T> for Tally {
         self.made = self.made.saturating_add(1);
         a.cmp(b).is_le()
     }
+}
+
+impl<T: Ord> JudgesByOrd<T> for Tally {
+    ghost by_ord = { refl };
 }
 
 /// Judges as another judge does, with the two items exchanged. So the least item comes out of a heap first.

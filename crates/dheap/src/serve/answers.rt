@@ -31,6 +31,12 @@ pub fn write_answers<W: Write, const D: usize>(
     ensures written { OnOk result (Appends (W.contents output.old) (W.contents output.new)
         (text (answered (read.replies replies.now)))) }
 {
+    // A lack of memory at the first reply is met before the output.
+    if let [first, ..] = replies
+        && !has_answer(first)
+    {
+        return Ok(false);
+    }
     let mut buffer = Vec::new(alloc);
     for reply in replies {
         if !write_reply(reply, &mut buffer)? {
@@ -45,6 +51,20 @@ pub fn write_answers<W: Write, const D: usize>(
     flush_buffer(&mut buffer, output)?;
     output.flush()?;
     Ok(true)
+}
+
+/// Returns `false` if the reply says that memory allocation failed.
+fn has_answer<const D: usize>(reply: &Reply<i64, D>) -> bool
+    ensures { result ≡ is_some (answer (read.reply reply.now)) }
+{
+    !matches!(
+        reply,
+        Reply::PushRefused(_)
+            | Reply::ExtendRefused
+            | Reply::AppendRefused(_)
+            | Reply::Refused
+            | Reply::Loaned(_)
+    )
 }
 
 /// Writes out what is buffered, and empties the buffer.

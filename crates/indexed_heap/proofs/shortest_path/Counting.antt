@@ -8,7 +8,7 @@ use Rattle.dary_heap.proofs.shortest_path.Examining.{AreOnce, distinct_node, onc
 use Rattle.dary_heap.specs.declared.shortest_path.Edge.{Edge}
 use Rattle.dary_heap.specs.declared.shortest_path.State.{State}
 use Rattle.indexed_heap.specs.Entries.{Indexed}
-use Rattle.indexed_heap.specs.Routes.{IsReady, Waits, raises_bound, search_bound, states}
+use Rattle.indexed_heap.specs.Lowering.{IsReady, Waits, raises_bound, search_bound, states}
 use Rattle.indexed_heap.proofs.shortest_path.Lowering.{begins_alone, states_same}
 use Rattle.indexed_heap.proofs.shortest_path.Waiting.{all_few, distinct_few, taken_exact, taken_within}
 

@@ -11,7 +11,7 @@ use Rattle.dary_heap.specs.declared.shortest_path.Edge.{Edge}
 use Rattle.dary_heap.specs.declared.shortest_path.State.{State}
 use Rattle.indexed_heap.specs.Entries.{Gets, Indexed, by_item}
 use Rattle.std.proofs.lemmas.List.Sorted.{IsPermutation-map}
-use Rattle.indexed_heap.specs.Routes.{IsReady, Lowers, Waits, states}
+use Rattle.indexed_heap.specs.Lowering.{IsReady, Lowers, Waits, states}
 use Rattle.indexed_heap.proofs.shortest_path.Waiting.{Contains-map_cases, Entry, came, distinct_by, kept, longer}
 
 abbrev pub state_of : Entry → State

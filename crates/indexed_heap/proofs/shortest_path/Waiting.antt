@@ -12,7 +12,7 @@ use Rattle.std.specs.Bool.{OnTrue, OnFalse}
 use Rattle.std.specs.declared.cmp.Ordering.{Ordering}
 use Rattle.indexed_heap.proofs.Callers.{item_of-none, item_of-there, one_item}
 use Rattle.indexed_heap.specs.Entries.{AreDistinct, Gets, Indexed, IsAbsent, IsEntry, IsReached, Raises, by_item, entries_of, item_of}
-use Rattle.indexed_heap.specs.Routes.{HasSameRoom, IsReady, Waits}
+use Rattle.indexed_heap.specs.Lowering.{HasSameRoom, IsReady, Waits}
 
 abbrev pub Entry : Type 0
 Entry = ℕ × ℕ

@@ -26,8 +26,8 @@ impl<T, const D: usize, J: Judge<T>> IndexedHeap<T, D, J> {
         ensures absent { IfNone result (IsAbsent key self.now.entries) }
         ensures map { option_copied result ≡ item_of key self.now.entries }
     {
-        match place_of(self.slots.as_slice(), self.places.as_slice(), key) {
-            Some(at) => Some(&self.slots[at].1),
+        match place_of(self.entries.as_slice(), self.places.as_slice(), key) {
+            Some(at) => Some(&self.entries.as_slice()[at].1),
             None => None,
         }
     }
@@ -47,7 +47,7 @@ impl<T, const D: usize, J: Judge<T>> IndexedHeap<T, D, J> {
         ensures present { OnTrue result (IsAbsent key self.now.entries → ⊥) }
         ensures absent { OnFalse result (IsAbsent key self.now.entries) }
     {
-        place_of(self.slots.as_slice(), self.places.as_slice(), key).is_some()
+        place_of(self.entries.as_slice(), self.places.as_slice(), key).is_some()
     }
 
     /// Returns an entry with a greatest item, or `None` if there are no entries. Takes *O*(1), without a comparison.
@@ -72,10 +72,7 @@ impl<T, const D: usize, J: Judge<T>> IndexedHeap<T, D, J> {
             (entry.0, entry.1.now)) }
         ensures sound { AreSound J.order D self.now.entries }
     {
-        if self.slots.is_empty() {
-            return None;
-        }
-        let (key, item) = &self.slots[0];
+        let (key, item) = self.entries.peek()?;
         Some((*key, item))
     }
 }

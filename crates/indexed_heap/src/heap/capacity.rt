@@ -7,7 +7,8 @@ ghost use Rattle.indexed_heap.specs.Keys.{key_bound};
 
 use super::IndexedHeap;
 use crate::judge::ByItem;
-use crate::table::reserve;
+use crate::table::{grow, widen};
+use dary_heap::DaryHeap;
 use dary_heap::sift::{ByOrd, Judge};
 use std::alloc::{AllocError, Global};
 
@@ -25,7 +26,7 @@ impl<T: Ord, const D: usize> IndexedHeap<T, D> {
     /// use indexed_heap::IndexedHeap;
     /// let heap = IndexedHeap::<i32, 4>::with_capacity(alloc, 10, 1000)?;
     /// assert!(rt; heap.capacity() >= 10);
-    /// assert_eq!(rt; heap.keys(), 1000);
+    /// assert_eq!(rt; heap.key_capacity(), 1000);
     /// ```
     pub fn with_capacity(alloc: Global, entries: usize, keys: usize) -> Result<Self, AllocError>
         ensures entries { IfOk result (λ heap. heap.entries ≡ []) }
@@ -37,12 +38,13 @@ impl<T: Ord, const D: usize> IndexedHeap<T, D> {
     {
         let mut places = Vec::new(alloc);
         places.resize(keys, 0)?;
+        let judge = ByItem {
+            items: ByOrd::new(),
+        };
+        let entries = Vec::with_capacity(alloc, entries)?;
         Ok(IndexedHeap {
-            slots: Vec::with_capacity(alloc, entries)?,
+            entries: DaryHeap::from_raw_vec_with(entries, judge),
             places,
-            judge: ByItem {
-                items: ByOrd::new(),
-            },
         })
     }
 }
@@ -62,7 +64,7 @@ impl<T, const D: usize, J: Judge<T>> IndexedHeap<T, D, J> {
         ensures capacity { result ≡ self.now.capacity }
         ensures holds { length self.now.entries ≤ result }
     {
-        self.slots.capacity()
+        self.entries.capacity()
     }
 
     /// Returns the number below which keys need no room in the table of places. Each key that has an item is below it.
@@ -76,11 +78,11 @@ impl<T, const D: usize, J: Judge<T>> IndexedHeap<T, D, J> {
     /// ```
     /// use indexed_heap::IndexedHeap;
     /// let mut heap = IndexedHeap::<_, 4>::with_capacity(alloc, 0, 50)?;
-    /// assert_eq!(rt; heap.keys(), 50);
+    /// assert_eq!(rt; heap.key_capacity(), 50);
     /// heap.insert(60, 1)?;
-    /// assert_eq!(rt; heap.keys(), 61);
+    /// assert_eq!(rt; heap.key_capacity(), 61);
     /// ```
-    pub fn keys(&self) -> usize
+    pub fn key_capacity(&self) -> usize
         ensures keys { result ≡ self.now.keys }
         ensures holds { (at key : ℕ) → IsEntry self.now.entries at key → key < result }
     {
@@ -89,10 +91,10 @@ impl<T, const D: usize, J: Judge<T>> IndexedHeap<T, D, J> {
 
     /// Reserves room for at least `additional` more entries, and for the keys below `keys`. Makes no comparison.
     ///
-    /// After `Ok` that many inserts of such keys allocate no memory, and don't fail. The number of [`keys`] is then
+    /// After `Ok` that many inserts of such keys allocate no memory, and don't fail. [`key_capacity`] is then
     /// `keys`, or stays if it was more. If there is room already, the call does nothing.
     ///
-    /// [`keys`]: IndexedHeap::keys
+    /// [`key_capacity`]: IndexedHeap::key_capacity
     ///
     /// # Errors
     ///
@@ -106,7 +108,7 @@ impl<T, const D: usize, J: Judge<T>> IndexedHeap<T, D, J> {
     /// let mut heap = IndexedHeap::<i32, 4>::new(alloc);
     /// heap.reserve(10, 1000)?;
     /// assert!(rt; heap.capacity() >= 10);
-    /// assert_eq!(rt; heap.keys(), 1000);
+    /// assert_eq!(rt; heap.key_capacity(), 1000);
     /// ```
     pub fn reserve(&mut self, additional: usize, keys: usize) -> Result<(), AllocError>
         ensures entries { self.new.entries ≡ self.old.entries }
@@ -126,7 +128,8 @@ impl<T, const D: usize, J: Judge<T>> IndexedHeap<T, D, J> {
         ensures full { OnErr result ((self.old.capacity < length self.old.entries + additional)
             ⊎ (self.old.keys < keys)) }
     {
-        reserve(&mut self.slots, &mut self.places, additional, keys)
+        grow::<(usize, T), ByItem<J>, D>(&mut self.entries, additional)?;
+        widen(&mut self.places, keys)
     }
 
     /// Gives room back. There stays room for `min_capacity` entries, or for those that are there if they are more, and
@@ -136,7 +139,7 @@ impl<T, const D: usize, J: Judge<T>> IndexedHeap<T, D, J> {
     /// # Errors
     ///
     /// Returns `AllocError` if the allocator can't provide a smaller block for the entries. They stay as they are, their
-    /// room has not grown, and [`keys`](IndexedHeap::keys) is as after `Ok`. If there is no smaller block for the table
+    /// room has not grown, and [`key_capacity`](IndexedHeap::key_capacity) is as after `Ok`. If there is no smaller block for the table
     /// of places, the table keeps the one that it has.
     ///
     /// # Examples
@@ -146,9 +149,9 @@ impl<T, const D: usize, J: Judge<T>> IndexedHeap<T, D, J> {
     /// let mut heap = IndexedHeap::<_, 4>::with_capacity(alloc, 100, 1000)?;
     /// heap.insert(30, 7)?;
     /// heap.shrink_to(10, 50)?;
-    /// assert_eq!(rt; (heap.capacity(), heap.keys()), (10, 50));
+    /// assert_eq!(rt; (heap.capacity(), heap.key_capacity()), (10, 50));
     /// heap.shrink_to(0, 20)?;
-    /// assert_eq!(rt; (heap.capacity(), heap.keys()), (1, 31));
+    /// assert_eq!(rt; (heap.capacity(), heap.key_capacity()), (1, 31));
     /// ```
     pub fn shrink_to(&mut self, min_capacity: usize, min_keys: usize) -> Result<(), AllocError>
         ensures room { Shrinks (by_item J.order) D (max (length self.old.entries) min_capacity)
@@ -158,15 +161,10 @@ impl<T, const D: usize, J: Judge<T>> IndexedHeap<T, D, J> {
         ensures covers { key_bound self.new.entries ≤ self.new.keys }
         ensures sound { AreSound J.order D self.new.entries }
     {
-        let keys = bound_of(self.slots.as_slice()).max(min_keys);
+        let keys = bound_of(self.entries.as_slice()).max(min_keys);
         self.places.truncate(keys);
         self.places.shrink_to_fit();
-        let wanted = self.slots.len().max(min_capacity);
-        self.slots.shrink_to(min_capacity);
-        if wanted < self.slots.capacity() {
-            return Err(AllocError);
-        }
-        Ok(())
+        self.entries.shrink_to(min_capacity)
     }
 
     /// Gives back all room for entries that aren't there, and for keys above the greatest one. Takes *O*(*n*), without
@@ -185,7 +183,7 @@ impl<T, const D: usize, J: Judge<T>> IndexedHeap<T, D, J> {
     /// heap.insert(90, 2)?;
     /// heap.remove(90);
     /// heap.shrink_to_fit()?;
-    /// assert_eq!(rt; (heap.capacity(), heap.keys()), (1, 31));
+    /// assert_eq!(rt; (heap.capacity(), heap.key_capacity()), (1, 31));
     /// ```
     pub fn shrink_to_fit(&mut self) -> Result<(), AllocError>
         ensures room { Shrinks (by_item J.order) D (length self.old.entries) (contents self.old)
@@ -198,12 +196,12 @@ impl<T, const D: usize, J: Judge<T>> IndexedHeap<T, D, J> {
 }
 
 /// Returns the least number that is above each key.
-fn bound_of<T>(slots: &[(usize, T)]) -> usize
-    requires { (i : ℕ) (slot : ℕ × T) → slice_get slots.now i ≡ Some slot → slot.0 < usize.MAX }
-    ensures { result ≡ key_bound slots.now }
+fn bound_of<T>(entries: &[(usize, T)]) -> usize
+    requires { (i : ℕ) (entry : ℕ × T) → slice_get entries.now i ≡ Some entry → entry.0 < usize.MAX }
+    ensures { result ≡ key_bound entries.now }
 {
     let mut bound = 0;
-    for (key, _) in slots {
+    for (key, _) in entries {
         bound = bound.max(*key + 1);
     }
     bound

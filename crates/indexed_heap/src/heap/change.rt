@@ -6,7 +6,7 @@ ghost use Rattle.indexed_heap.specs.Entries.{AreSound, Gets, InsertsWithin, IsAb
 
 use super::IndexedHeap;
 use crate::judge::ByItem;
-use crate::table::{raise, set};
+use crate::table::{add, change, has_room, lift, place_of, put};
 use dary_heap::sift::Judge;
 
 impl<T, const D: usize, J: Judge<T>> IndexedHeap<T, D, J> {
@@ -20,7 +20,7 @@ impl<T, const D: usize, J: Judge<T>> IndexedHeap<T, D, J> {
     ///
     /// Returns the item if memory allocation fails, or if the key is `usize::MAX`. The entries are then as they were,
     /// and there is as much room or more. This happens only if the key has no item, and the length has reached the
-    /// [`capacity`](IndexedHeap::capacity) or the key [`keys`](IndexedHeap::keys).
+    /// [`capacity`](IndexedHeap::capacity) or the key [`key_capacity`](IndexedHeap::key_capacity).
     ///
     /// # Examples
     ///
@@ -56,13 +56,16 @@ impl<T, const D: usize, J: Judge<T>> IndexedHeap<T, D, J> {
         ensures unchanged { OnErr result (self.new.entries ≡ self.old.entries) }
         ensures uncounted { OnErr result (self.new.comparisons ≡ self.old.comparisons) }
     {
-        set::<T, ByItem<J>, D>(
-            &mut self.slots,
-            &mut self.places,
-            key,
-            item,
-            &mut self.judge,
-        )
+        let Some(at) = place_of(self.entries.as_slice(), self.places.as_slice(), key) else {
+            if has_room::<(usize, T), ByItem<J>, D>(&self.entries, &self.places, key) {
+                put::<T, ByItem<J>, D>(&mut self.entries, self.places.as_mut_slice(), key, item);
+                return Ok(None);
+            }
+            add::<T, ByItem<J>, D>(&mut self.entries, &mut self.places, key, item)?;
+            return Ok(None);
+        };
+        let places = self.places.as_mut_slice();
+        Ok(Some(change::<T, ByItem<J>, D>(&mut self.entries, places, at, key, item)))
     }
 
     /// Gives a key an item, unless it has one that is at least as great. Returns `true` if the key has the new item.
@@ -114,12 +117,15 @@ impl<T, const D: usize, J: Judge<T>> IndexedHeap<T, D, J> {
         ensures unchanged { OnErr result (self.new.entries ≡ self.old.entries) }
         ensures uncounted { OnErr result (self.new.comparisons ≡ self.old.comparisons) }
     {
-        raise::<T, ByItem<J>, D>(
-            &mut self.slots,
-            &mut self.places,
-            key,
-            item,
-            &mut self.judge,
-        )
+        if let Some(at) = place_of(self.entries.as_slice(), self.places.as_slice(), key) {
+            let places = self.places.as_mut_slice();
+            return Ok(lift::<T, ByItem<J>, D>(&mut self.entries, places, at, key, item));
+        }
+        if has_room::<(usize, T), ByItem<J>, D>(&self.entries, &self.places, key) {
+            put::<T, ByItem<J>, D>(&mut self.entries, self.places.as_mut_slice(), key, item);
+            return Ok(true);
+        }
+        add::<T, ByItem<J>, D>(&mut self.entries, &mut self.places, key, item)?;
+        Ok(true)
     }
 }

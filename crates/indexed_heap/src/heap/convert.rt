@@ -9,7 +9,8 @@ ghost use Rattle.indexed_heap.specs.Showing.{debug_entry};
 
 use super::IndexedHeap;
 use crate::judge::ByItem;
-use dary_heap::sift::{ByOrd, Judge, build_with};
+use dary_heap::DaryHeap;
+use dary_heap::sift::{ByOrd, Judge};
 use std::alloc::{AllocError, Global};
 use std::default::{Emptied, MadeWith};
 use std::fmt;
@@ -24,7 +25,7 @@ impl<T: Ord, const D: usize> IndexedHeap<T, D> {
     /// # Errors
     ///
     /// Returns `AllocError` if memory allocation fails, here or in an item's `clone`. The call doesn't fail for a heap
-    /// without room for [`keys`](IndexedHeap::keys), such as a new one.
+    /// without room for [`key_capacity`](IndexedHeap::key_capacity), such as a new one.
     ///
     /// # Examples
     ///
@@ -49,12 +50,13 @@ impl<T: Ord, const D: usize> IndexedHeap<T, D> {
             return Ok(IndexedHeap::new(*self.places.allocator()));
         }
         let places = self.places.clone()?;
+        let judge = ByItem {
+            items: ByOrd::new(),
+        };
+        let entries = self.entries.as_slice().to_vec(*self.places.allocator())?;
         Ok(IndexedHeap {
-            slots: self.slots.clone()?,
+            entries: DaryHeap::from_raw_vec_with(entries, judge),
             places,
-            judge: ByItem {
-                items: ByOrd::new(),
-            },
         })
     }
 }
@@ -66,7 +68,7 @@ impl<T: Ord, const D: usize> IndexedHeap<T, D> {
 /// # Errors
 ///
 /// Returns `AllocError` if memory allocation fails, here or in the `clone` of an item or the judge. For a heap without
-/// room for [`keys`](IndexedHeap::keys), such as a new one, it fails only if the judge's `clone` does.
+/// room for [`key_capacity`](IndexedHeap::key_capacity), such as a new one, it fails only if the judge's `clone` does.
 ///
 /// # Examples
 ///
@@ -86,32 +88,26 @@ impl<T: Clone, const D: usize, J: Judge<T> + Clone> Clone for IndexedHeap<T, D, 
     ghost is_infallible = { IsCopiedFreely J.is_infallible J.count };
 
     fn clone(&self) -> Result<Self, AllocError> {
-        let items = self.judge.items.clone()?;
         if self.places.is_empty() {
-            return Ok(IndexedHeap::with_judge(*self.places.allocator(), items));
+            let judge = self.judge().clone()?;
+            return Ok(IndexedHeap::with_judge(*self.places.allocator(), judge));
         }
-        let mut judge = ByItem { items };
         let mut places = self.places.clone()?;
-        let mut slots = self.slots.clone()?;
-        build_with::<(usize, T), ByItem<J>, D>(slots.as_mut_slice(), &mut judge);
-        write_places(slots.as_slice(), places.as_mut_slice());
-        Ok(IndexedHeap {
-            slots,
-            places,
-            judge,
-        })
+        let entries = Clone::clone(&self.entries)?;
+        write_places(entries.as_slice(), places.as_mut_slice());
+        Ok(IndexedHeap { entries, places })
     }
 }
 
-/// Writes the place of each slot.
-fn write_places<T>(slots: &[(usize, T)], places: &mut [usize])
-    requires distinct { AreDistinct slots.now }
-    requires inside { (i : ℕ) (slot : ℕ × T) → slice_get slots.now i ≡ Some slot → slot.0 < length places.old }
-    ensures right { AreRight slots.now places.new }
+/// Writes the place of each entry.
+fn write_places<T>(entries: &[(usize, T)], places: &mut [usize])
+    requires distinct { AreDistinct entries.now }
+    requires inside { (i : ℕ) (entry : ℕ × T) → slice_get entries.now i ≡ Some entry → entry.0 < length places.old }
+    ensures right { AreRight entries.now places.new }
     ensures len { length places.new ≡ length places.old }
 {
-    for place in 0..slots.len() {
-        places[slots[place].0] = place;
+    for place in 0..entries.len() {
+        places[entries[place].0] = place;
     }
 }
 
@@ -144,7 +140,7 @@ impl<T: Ord, const D: usize> Emptied for IndexedHeap<T, D> {
         ensures empty { IfOk result (λ heap. IsNew heap) }
         ensures succeeds { IsOk result }
     {
-        Ok(IndexedHeap::new(*like.slots.allocator()))
+        Ok(IndexedHeap::new(*like.places.allocator()))
     }
 }
 
@@ -163,6 +159,6 @@ impl<T: fmt::Debug, const D: usize, J: Judge<T>> fmt::Debug for IndexedHeap<T, D
     ghost debug_output = { λ heap. debug_list (debug_entry T.debug_output) heap.entries };
 
     fn fmt<W: fmt::Write>(&self, f: &mut fmt::Formatter<W>) -> fmt::Result {
-        fmt::Debug::fmt(&self.slots, f)
+        fmt::Debug::fmt(&self.entries, f)
     }
 }

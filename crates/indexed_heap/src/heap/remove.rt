@@ -6,7 +6,7 @@ ghost use Rattle.indexed_heap.specs.Entries.{AreSound, IsAbsent, Loses, MayAnswe
 
 use super::IndexedHeap;
 use crate::judge::ByItem;
-use crate::table::{take_out, unset};
+use crate::table::{place_of, take_out};
 use dary_heap::sift::Judge;
 
 impl<T, const D: usize, J: Judge<T>> IndexedHeap<T, D, J> {
@@ -41,12 +41,15 @@ impl<T, const D: usize, J: Judge<T>> IndexedHeap<T, D, J> {
         // If the key has no item nothing changes.
         ensures unchanged { IfNone result (self.new ≡ self.old) }
     {
-        unset::<T, ByItem<J>, D>(
-            &mut self.slots,
+        let Some(at) = place_of(self.entries.as_slice(), self.places.as_slice(), key) else {
+            return None;
+        };
+        let (_, item) = take_out::<T, ByItem<J>, D>(
+            &mut self.entries,
             self.places.as_mut_slice(),
-            key,
-            &mut self.judge,
-        )
+            at,
+        );
+        Some(item)
     }
 
     /// Removes an entry with a greatest item and returns it, or returns `None` if there are no entries.
@@ -85,15 +88,10 @@ impl<T, const D: usize, J: Judge<T>> IndexedHeap<T, D, J> {
         // If there is no entry nothing changes.
         ensures unchanged { IfNone result (self.new ≡ self.old) }
     {
-        if self.slots.is_empty() {
+        if self.entries.is_empty() {
             return None;
         }
-        Some(take_out::<T, ByItem<J>, D>(
-            &mut self.slots,
-            self.places.as_mut_slice(),
-            0,
-            &mut self.judge,
-        ))
+        Some(take_out::<T, ByItem<J>, D>(&mut self.entries, self.places.as_mut_slice(), 0))
     }
 
     /// Removes an entry with a greatest item and returns it, if the predicate returns `true` for its key and its item.
@@ -157,7 +155,7 @@ impl<T, const D: usize, J: Judge<T>> IndexedHeap<T, D, J> {
     /// heap.insert(8, 1)?;
     /// heap.clear();
     /// assert!(rt; heap.is_empty());
-    /// assert_eq!(rt; heap.keys(), 9);
+    /// assert_eq!(rt; heap.key_capacity(), 9);
     /// ```
     pub fn clear(&mut self)
     where
@@ -167,6 +165,6 @@ impl<T, const D: usize, J: Judge<T>> IndexedHeap<T, D, J> {
         ensures keys { self.new.keys ≡ self.old.keys }
         ensures uncounted { self.new.comparisons ≡ self.old.comparisons }
     {
-        self.slots.clear();
+        self.entries.clear();
     }
 }

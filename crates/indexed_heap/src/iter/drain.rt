@@ -1,15 +1,11 @@
 //! The iterator that empties a heap.
 ghost use Rattle.std.specs.Prelude.{◌≡◌, ◌^◌, ◌<◌, ℕ, length};
 ghost use Rattle.std.specs.Borrow.{sem};
-ghost use Rattle.std.specs.Iterator.{YieldsFirst, YieldsLast, item_count};
+ghost use Rattle.std.specs.Iterator.{YieldsFirst, YieldsLast};
 ghost use Rattle.std.specs.Iterator.Runs.{YieldsInOrder, YieldsInReverse};
-ghost use Rattle.dary_heap.specs.Sizes.{HintsExactly};
 
-use super::IntoIter;
 use crate::heap::IndexedHeap;
 use dary_heap::sift::Judge;
-use std::iter::FusedIterator;
-use std::{fmt, mem};
 
 /// An iterator over the entries of a heap, in the order in which they were stored. The heap is empty afterwards.
 ///
@@ -29,12 +25,7 @@ use std::{fmt, mem};
 /// assert_eq!(rt; entries.next_back(), Some((7, 3)));
 /// assert_eq!(rt; entries.len(), 1);
 /// ```
-#[derive(Drop)]
-pub struct Drain<'a, T> {
-    rest: IntoIter<T>,
-    // The slots that the heap has left, of which there are none. This keeps the heap borrowed.
-    left: &'a mut [(usize, T)],
-}
+pub type Drain<'a, T> = dary_heap::Drain<'a, (usize, T)>;
 
 impl<T, const D: usize, J: Judge<T>> IndexedHeap<T, D, J> {
     ghost use Rattle.indexed_heap.specs.Drain.{drain_rest, drain_lender, leaves_emptied};
@@ -43,7 +34,7 @@ impl<T, const D: usize, J: Judge<T>> IndexedHeap<T, D, J> {
     /// comparison.
     ///
     /// Once the iterator is gone, even if it was dropped early or forgotten, the heap is empty. The iterator takes its
-    /// vector, so its capacity is 0 then. It has as much room for [`keys`](IndexedHeap::keys) as before.
+    /// vector, so its capacity is 0 then. It has as much room for [`key_capacity`](IndexedHeap::key_capacity) as before.
     ///
     /// # Examples
     ///
@@ -53,7 +44,7 @@ impl<T, const D: usize, J: Judge<T>> IndexedHeap<T, D, J> {
     /// heap.insert(8, 1)?;
     /// assert_eq!(rt; heap.drain().next(), Some((8, 1)));
     /// assert!(rt; heap.is_empty());
-    /// assert_eq!(rt; heap.keys(), 9);
+    /// assert_eq!(rt; heap.key_capacity(), 9);
     /// ```
     pub fn drain(&mut self) -> Drain<'_, T>
         // Once the iterator is gone the heap has no entries, no room for them, and the same count.
@@ -64,55 +55,6 @@ impl<T, const D: usize, J: Judge<T>> IndexedHeap<T, D, J> {
         ensures runs { YieldsInOrder (YieldsFirst {A = ℕ × T} drain_rest) drain_rest }
         ensures runs_back { YieldsInReverse (YieldsLast {A = ℕ × T} drain_rest) drain_rest }
     {
-        let alloc = *self.slots.allocator();
-        let slots = mem::replace(&mut self.slots, Vec::new(alloc));
-        Drain {
-            rest: IntoIter::of(slots),
-            left: self.slots.as_mut_slice(),
-        }
-    }
-}
-
-impl<T: Drop> Iterator for Drain<'_, T> {
-    ghost use Rattle.indexed_heap.specs.Drain.{drain_rest};
-
-    type Item = (usize, T);
-
-    ghost next_gives = { YieldsFirst drain_rest };
-
-    ghost remaining = { item_count drain_rest };
-
-    fn next(&mut self) -> Option<(usize, T)> {
-        self.rest.next()
-    }
-
-    fn size_hint(&self) -> (usize, Option<usize>)
-        ensures { HintsExactly (drain_rest self.now) result }
-    {
-        self.rest.size_hint()
-    }
-}
-
-impl<T: Drop> DoubleEndedIterator for Drain<'_, T> {
-    ghost use Rattle.indexed_heap.specs.Drain.{drain_rest};
-
-    ghost next_back_gives = { YieldsLast drain_rest };
-
-    fn next_back(&mut self) -> Option<(usize, T)> {
-        self.rest.next_back()
-    }
-}
-
-impl<T: Drop> ExactSizeIterator for Drain<'_, T> {
-    fn len(&self) -> usize {
-        self.rest.len()
-    }
-}
-
-impl<T: Drop> FusedIterator for Drain<'_, T> {}
-
-impl<T: fmt::Debug> fmt::Debug for Drain<'_, T> {
-    fn fmt<W: fmt::Write>(&self, f: &mut fmt::Formatter<W>) -> fmt::Result {
-        f.debug_tuple("Drain").field(&self.rest.rest).finish()
+        self.entries.drain()
     }
 }

@@ -63,7 +63,7 @@ impl<T, const D: usize, J: Judge<T>> IndexedHeap<T, D, J> {
         ensures runs_back { ShowsInReverse T }
     {
         Iter {
-            rest: self.slots.as_slice().iter(),
+            rest: self.entries.as_slice().iter(),
         }
     }
 }

@@ -1,5 +1,5 @@
 use Rattle.dary_heap.proofs.{◌≡◌, [], ◌∷◌, ◌++◌, length, map, All, Contains, sym, ap, ◌∙◌, subst, arith, inl, inr, append_assoc, append-nil, length-append, map-append, nil_from_length}
-use Rattle.dary_heap.proofs.{Contains-append_left, Contains-append_right, Contains-append_cases, into_iter_items, IsCallableOn, items_in, predicates_in, ordered_state}
+use Rattle.dary_heap.proofs.{Contains-append_left, Contains-append_right, Contains-append_cases, into_iter_items, MayCall, items_in, ordered_state}
 use Rattle.dary_heap.specs.Reading as read
 use Rattle.dary_heap.proofs.run.Runs.{callable_one, items_of_one, Runs-begins, Runs-more}
 use Rattle.dary_heap.proofs.run.run.Goals as goal
@@ -28,7 +28,7 @@ serve-requires g c =
           assumption,
           callable_one g.P.FnMut (c.args.heap.now.items ++ items_in (read.commands all)) c.loop-command.heap.items (read.commands c.loop-command.yielded)
               (read.command c.in-Some.command) (read.commands (into_iter_items c.next.new.self)) c.loop-command.invariant.among
-              (subst (λ cs. All (IsCallableOn g.P.FnMut (c.args.heap.now.items ++ items_in (read.commands all))) (predicates_in cs)) seen c.requires),
+              (subst (λ cs. All (MayCall g.P.FnMut (c.args.heap.now.items ++ items_in (read.commands all))) cs) seen c.requires),
         ),
       ),
     )

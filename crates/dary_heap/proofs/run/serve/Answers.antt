@@ -1,20 +1,19 @@
-use Rattle.dary_heap.proofs.{arith, le_refl, refl, zero-le, same_state}
+use Rattle.dary_heap.proofs.{ap, arith, le_refl, refl, zero-le, same_state}
+use Rattle.dary_heap.specs.Reading as read
 use Rattle.dary_heap.proofs.run.Serving.{asks, callable_on_front, pops_where, retained, serves_emptied, serves_same}
 use Rattle.dary_heap.proofs.run.serve.Goals as goal
 
 pub pop_if-requires : goal.pop_if-requires
 pop_if-requires g c =
-    let callable = (rw c.in-PopIf.is at c.requires) 0 c.in-PopIf.predicate (omega arith) in
-    (assumption, callable_on_front g.P.FnMut c.args.heap.now.items c.in-PopIf.predicate callable)
+    (assumption, callable_on_front g.P.FnMut c.args.heap.now.items c.in-PopIf.predicate (c.requires.pop_if c.in-PopIf.predicate (ap read.command c.in-PopIf.is)))
 
 pub ask-requires : goal.ask-requires
 ask-requires g c =
-    let callable = (rw c.in-Ask.is at c.requires) 0 c.in-Ask.predicate (omega arith) in
-    (assumption, callable_on_front g.P.FnMut c.args.heap.now.items c.in-Ask.predicate callable)
+    (assumption, callable_on_front g.P.FnMut c.args.heap.now.items c.in-Ask.predicate (c.requires.ask c.in-Ask.predicate (ap read.command c.in-Ask.is)))
 
 pub retain-requires : goal.retain-requires
 retain-requires g c =
-    let callable = (rw c.in-Retain.is at c.requires) 0 c.in-Retain.predicate (omega arith) in
+    let callable = c.requires.retain c.in-Retain.predicate (ap read.command c.in-Retain.is) in
     (assumption, callable.in_turn c.args.heap.now.items (λ x in'. in'))
 
 pub returns-in-PopIf : goal.returns-in-PopIf

@@ -5,8 +5,8 @@ use Rattle.dary_heap_c.proofs.moves.fix_keyed.Goals as goal
 
 pub returns-clause-rights : goal.returns-clause-rights
 returns-clause-rights g c =
-    let D = g.row.D in let place = c.args.place in let stop = c.sift_with-stop.result in
-    let noted = c.write_path.ensures in let sifted = c.sift_with-stop.ensures in
+    let D = g.row.D in let place = c.args.place in let stop = c.fix_with-stop.result in
+    let noted = c.write_path.ensures in let sifted = c.fix_with-stop.ensures in
     elim sifted.path [
       | inl up ↦
           let over : stop ≤ place = GoesUp-le D place stop up in

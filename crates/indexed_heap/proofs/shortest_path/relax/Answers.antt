@@ -1,7 +1,7 @@
 use Rattle.dary_heap.proofs.Common.{◌≡◌, ◌<◌, arith, get_or, get_or_default, length, take_more}
 use Rattle.dary_heap.specs.declared.shortest_path.Edge.{Edge}
 use Rattle.dary_heap.proofs.shortest_path.Relaxing.{relaxes_kept, relaxes_more}
-use Rattle.indexed_heap.specs.Routes.{states}
+use Rattle.indexed_heap.specs.Lowering.{states}
 use Rattle.indexed_heap.proofs.shortest_path.Counting.{raises_more}
 use Rattle.indexed_heap.proofs.shortest_path.Lowering.{relaxes_lowered}
 use Rattle.indexed_heap.proofs.shortest_path.Waiting.{same_room}

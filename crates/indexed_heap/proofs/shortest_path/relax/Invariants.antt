@@ -1,5 +1,5 @@
 use Rattle.dary_heap.proofs.Common.{length, take, RisesWithin}
-use Rattle.indexed_heap.specs.Routes.{HasSameRoom, IsReady, Lowers, raises_bound}
+use Rattle.indexed_heap.specs.Lowering.{HasSameRoom, IsReady, Lowers, raises_bound}
 use Rattle.indexed_heap.proofs.shortest_path.relax.Given as goal
 
 abbrev pub invariant-loop-edge : goal.invariant-loop-edge

@@ -1,7 +1,7 @@
 use Rattle.dary_heap.proofs.Common.{◌∙◌, ℕ, List, [], arith, ap, err_from_is_err_and, lit<, refl, replicate, subst, length-map, length_permutation}
 use Rattle.dary_heap.proofs.Bags.{has_none}
 use Rattle.dary_heap.proofs.shortest_path.Searching.{IsSearch, after_examining, found_least, found_uncritical, none_reached, none_uncritical, row_read, search_begins, taken, too_large}
-use Rattle.indexed_heap.specs.Routes.{states}
+use Rattle.indexed_heap.specs.Lowering.{states}
 use Rattle.indexed_heap.proofs.shortest_path.Counting.{counted_begins, counted_ends, counted_failed, counted_goal, counted_more}
 use Rattle.indexed_heap.proofs.shortest_path.Lowering.{begins_alone, low_of, row_within, state_of, states_same}
 use Rattle.indexed_heap.proofs.shortest_path.Waiting.{same_room, taken_exact, taken_ready}
@@ -20,10 +20,10 @@ loop-node-init g c =
     }
 
 pub returns-then-node-goal-clause-least : goal.returns-then-node-goal-clause-least
-returns-then-node-goal-clause-least g c = found_least c.loop-node.invariant.search (states_same _ _ c.in-Some.ensures.bag) (low_of _ _ c.in-Some.ensures.greatest) c.if-node-goal.true
+returns-then-node-goal-clause-least g c = found_least c.loop-node.invariant.search (states_same _ _ c.in-Some.ensures.bag) (low_of _ _ (rw g.met.J.JudgesByOrd.by_ord at c.in-Some.ensures.greatest)) c.if-node-goal.true
 
 pub returns-then-node-goal-clause-uncritical : goal.returns-then-node-goal-clause-uncritical
-returns-then-node-goal-clause-uncritical g c = found_uncritical c.loop-node.invariant.search (states_same _ _ c.in-Some.ensures.bag) (low_of _ _ c.in-Some.ensures.greatest) c.if-node-goal.true
+returns-then-node-goal-clause-uncritical g c = found_uncritical c.loop-node.invariant.search (states_same _ _ c.in-Some.ensures.bag) (low_of _ _ (rw g.met.J.JudgesByOrd.by_ord at c.in-Some.ensures.greatest)) c.if-node-goal.true
 
 pub returns-then-node-goal-clause-counted : goal.returns-then-node-goal-clause-counted
 returns-then-node-goal-clause-counted g c =
@@ -39,7 +39,7 @@ relax-requires g c =
     let S = c.loop-node.invariant.search in
     let pop = c.in-Some.ensures in
     let row_is = row_read S (states_same _ _ pop.bag) c.index.result.now c.index.ensures in (
-      lit< tt,
+      grind arith,
       (
         row_within c.args.adj_list.now.items c.in-Some.node c.index.result.now c.requires.graph S.long row_is,
         taken_ready c.loop-node.invariant.ready pop.bag pop.sound.distinct (record { capacity = pop.capacity; keys = pop.keys }),
@@ -62,7 +62,7 @@ loop-node-preserved g c =
       search = after_examining S bag c.if-node-goal.false (taken_exact before.ready pop.bag) _ row_is done.ok c.requires.graph;
       ready = done.ready;
       room = same_room before.room (same_room (record { capacity = pop.capacity; keys = pop.keys }) done.room);
-      counted = counted_more before.counted c.pop.new.self before.ready pop.bag S.long pop.counted _ row_is (low_of _ _ pop.greatest) done.ok done.counted;
+      counted = counted_more before.counted c.pop.new.self before.ready pop.bag S.long pop.counted _ row_is (low_of _ _ (rw g.met.J.JudgesByOrd.by_ord at pop.greatest)) done.ok done.counted;
     }
 
 pub returns-in_err-relax-clause-too_large : goal.returns-in_err-relax-clause-too_large
@@ -72,7 +72,7 @@ returns-in_err-relax-clause-too_large g c =
     let bag = states_same _ _ pop.bag in
     let row_is = row_read S bag c.index.result.now c.index.ensures in
     let failed = err_from_is_err_and c.from_residual.result c.from_residual.ensures.1 in
-    rw failed.1 (too_large S bag c.if-node-goal.false (taken_exact c.loop-node.invariant.ready pop.bag) _ row_is (low_of _ _ pop.greatest) c.in_err-relax.ensures.too_large)
+    rw failed.1 (too_large S bag c.if-node-goal.false (taken_exact c.loop-node.invariant.ready pop.bag) _ row_is (low_of _ _ (rw g.met.J.JudgesByOrd.by_ord at pop.greatest)) c.in_err-relax.ensures.too_large)
 
 pub returns-in_err-relax-clause-counted : goal.returns-in_err-relax-clause-counted
 returns-in_err-relax-clause-counted g c =

@@ -1,6 +1,6 @@
 use Rattle.dary_heap.proofs.Common.{◌+◌, length, sum}
 use Rattle.dary_heap.proofs.shortest_path.Searching.{IsSearch}
-use Rattle.indexed_heap.specs.Routes.{HasSameRoom, IsReady, states}
+use Rattle.indexed_heap.specs.Lowering.{HasSameRoom, IsReady, states}
 use Rattle.indexed_heap.proofs.shortest_path.Counting.{IsCounted}
 use Rattle.indexed_heap.proofs.shortest_path.shortest_path_by_lowering_within.Given as goal
 

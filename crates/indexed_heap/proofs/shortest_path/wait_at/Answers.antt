@@ -9,10 +9,15 @@ unreachable-requires g c = elim (has_room c.requires.ready c.args.node c.require
   | inr room ↦ true≢false (sym (c.in_default.ensures.succeeds room (omega (arith, c.requires.within, c.requires.ready.keyed))))
 ]
 
+pub returns-clause-waits : goal.returns-clause-waits
+returns-clause-waits g c =
+    let done = c.in-Ok.ensures in
+    raised c.requires.ready c.requires.lower c.in-Ok.field-0 (rw g.met.J.JudgesByOrd.by_ord at done.raised) (rw g.met.J.JudgesByOrd.by_ord at done.reached)
+
 pub returns-clause-ready : goal.returns-clause-ready
 returns-clause-ready g c =
     let done = c.in-Ok.ensures in
-    stays_ready c.requires.ready c.requires.within (raised c.requires.ready c.requires.lower c.in-Ok.field-0 done.raised done.reached) done.sound.distinct done.capacity done.keys
+    stays_ready c.requires.ready c.requires.within (returns-clause-waits g c) done.sound.distinct done.capacity done.keys
 
 pub returns-clause-room : goal.returns-clause-room
 returns-clause-room g c =

@@ -1,29 +1,40 @@
-use Rattle.dary_heap.proofs.Common.{◌≡◌, ℕ, get_or, refl, sym, ap, ◌∙◌, slice_get-get_or}
-use Rattle.dary_heap.proofs.Callers.{overwritten}
-use Rattle.indexed_heap.proofs.Changing.{item_instead, put_there, slot_is}
+use Rattle.dary_heap.proofs.Common.{◌≡◌, ◌<◌, ℕ, ◌∷◌, length, set, refl, sym, ap, ◌∙◌, subst, arith, slice_get_within, get_or_from_slice_get, length-set, IsPermutation}
+use Rattle.dary_heap.proofs.Order.{slice_get-set_same}
+use Rattle.dary_heap.proofs.Path.{GoesTo-carries}
+use Rattle.indexed_heap.proofs.Changing.{entry_is}
+use Rattle.indexed_heap.proofs.Placing.{went, went_above}
 use Rattle.indexed_heap.proofs.Raising.{same_key_but_at}
 use Rattle.indexed_heap.proofs.table.change.Goals as goal
 
-pub fix-requires : goal.fix-requires
-fix-requires g c =
-    let xs = c.args.slots.now in let at = c.args.at in
-    same_key_but_at xs c.args.places.now at (get_or xs at c.index-slots-at.result) _ c.requires.there (slice_get-get_or xs at c.index-slots-at.result c.requires.there) refl c.requires.right
+pub write_path-requires-clause-above : goal.write_path-requires-clause-above
+write_path-requires-clause-above g c =
+    let xs = c.args.entries.now.items in let at = c.args.at in
+    went_above g.row.D at c.replace_at_returning_place-old.result.1 c.max.result c.min.result (set xs at (c.args.key, c.args.item)) c.replace_at_returning_place-old.new.self.items
+    (λ le. (omega (arith, le, c.max.ensures), omega (arith, le, c.min.ensures))) (λ le. (omega (arith, le, c.max.ensures), omega (arith, le, c.min.ensures))) c.replace_at_returning_place-old.ensures.path
 
-pub returns-clause-bag : goal.returns-clause-bag
-returns-clause-bag g c = λ key h.
-    let xs = c.args.slots.now in let at = c.args.at in
-    let m = get_or xs at c.index-slots-at.result in
-    let here = slice_get-get_or xs at c.index-slots-at.result c.requires.there in
-    let has : m.0 ≡ key = (let is = here in let told = h.there in let same : m ≡ h.entry = cc in ap (λ (s : ℕ × g.row.T.Denot). s.0) same ∙ h.has) in
-    item_instead xs c.fix.new.slots at key m _ c.replace-old.result c.args.item here has (sym c.replace-old.ensures.value) has c.replace-old.ensures.after c.fix.ensures.bag
+pub write_path-requires-clause-right : goal.write_path-requires-clause-right
+write_path-requires-clause-right g c =
+    let xs = c.args.entries.now.items in let at = c.args.at in
+    let there = c.requires.there in
+    let put = same_key_but_at xs c.args.places.now at there.entry (c.args.key, c.args.item) (slice_get_within xs at there.entry there.there) there.there (sym there.has) c.requires.right in
+    rw c.as_slice.ensures.items (went g.row.D at c.replace_at_returning_place-old.result.1 c.max.result c.min.result (set xs at (c.args.key, c.args.item)) c.replace_at_returning_place-old.new.self.items
+    (λ le. (omega (arith, le, c.max.ensures), omega (arith, le, c.min.ensures))) (λ le. (omega (arith, le, c.max.ensures), omega (arith, le, c.min.ensures))) c.replace_at_returning_place-old.ensures.path
+    c.args.places.now put c.replace_at_returning_place-old.ensures.within)
 
-pub returns-clause-ordered : goal.returns-clause-ordered
-returns-clause-ordered g c = λ h. c.fix.ensures.ordered (overwritten g.met.J.Judge.total g.row.D c.args.at c.args.slots.now _ h)
-
-pub returns-clause-has : goal.returns-clause-has
-returns-clause-has g c = λ key h.
-    let xs = c.args.slots.now in let at = c.args.at in
-    let m = get_or xs at c.index-slots-at.result in
-    let here = slice_get-get_or xs at c.index-slots-at.result c.requires.there in
-    let has : m.0 ≡ key = (let is = here in let told = h.there in let same : m ≡ h.entry = cc in ap (λ (s : ℕ × g.row.T.Denot). s.0) same ∙ h.has) in
-    rw (← slot_is _ key c.args.item has c.replace-old.ensures.after) (put_there xs c.fix.new.slots at _ c.requires.there c.fix.ensures.bag)
+pub returns-clause-gets : goal.returns-clause-gets
+returns-clause-gets g c =
+    let xs = c.args.entries.now.items in let at = c.args.at in
+    let x : ℕ × g.row.T.Denot = (c.args.key, c.args.item) in
+    let there = c.requires.there in
+    let replaced = c.replace_at_returning_place-old.ensures in
+    let old = c.replace_at_returning_place-old.result.0 in
+    let new = c.replace_at_returning_place-old.new.self.items in
+    let held : old ≡ there.entry = (let told = there.there in let item = replaced.item in cc) in
+    let is : old ≡ (c.args.key, old.1) = entry_is old c.args.key old.1 (ap (λ (e : ℕ × g.row.T.Denot). e.0) held ∙ there.has) refl in
+    let inside : at < length xs = slice_get_within xs at there.entry there.there in
+    let carried = GoesTo-carries g.row.D at c.replace_at_returning_place-old.result.1 (set xs at x) new (omega (arith, inside, length-set xs at x)) replaced.within replaced.path in
+    record {
+      bag = subst (λ (e : ℕ × g.row.T.Denot). IsPermutation (x ∷ xs) (e ∷ new)) is replaced.bag;
+      absent = tt;
+      has = (c.replace_at_returning_place-old.result.1, replaced.within, get_or_from_slice_get new c.replace_at_returning_place-old.result.1 x x (carried ∙ slice_get-set_same xs at x inside));
+    }

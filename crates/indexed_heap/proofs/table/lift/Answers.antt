@@ -1,62 +1,43 @@
-use Rattle.dary_heap.proofs.Common.{◌≡◌, ◌≢◌, ℕ, get_or, refl, sym, ap, ◌∙◌, Some, get_or_from_slice_get, is_le, Greater}
-use Rattle.dary_heap.proofs.Callers.{overwritten}
-use Rattle.dary_heap.proofs.Order.{not_greater, is_greater, strictly_less}
-use Rattle.indexed_heap.proofs.Changing.{item_instead, put_there, slot_is}
-use Rattle.indexed_heap.proofs.Raising.{none_greater, same_key_but_at}
-use Rattle.indexed_heap.proofs.table.lift.Goals.{After-at_most}
-use Rattle.indexed_heap.proofs.table.lift.Given.{Over}
+use Rattle.dary_heap.proofs.Common.{◌≡◌, ◌<◌, ℕ, ◌∷◌, Some, inl, length, set, refl, sym, ◌∙◌, subst, arith, slice_get_within, get_or_from_slice_get, Greater, IsPermutation, length-set}
+use Rattle.dary_heap.proofs.Order.{slice_get-set_same}
+use Rattle.dary_heap.proofs.Path.{GoesTo-carries, GoesUp-le, GoesUpBy-above}
+use Rattle.indexed_heap.proofs.Changing.{entry_is}
+use Rattle.indexed_heap.proofs.Placing.{went_up}
+use Rattle.indexed_heap.proofs.Raising.{same_key_but_at}
 use Rattle.indexed_heap.proofs.table.lift.Goals as goal
 
--- the slot that is there
-there_is : (g : Over) (c : After-at_most g) → c.requires.there.entry ≡ (c.args.key, c.requires.there.entry.1)
-there_is g c = slot_is c.requires.there.entry c.args.key c.requires.there.entry.1 c.requires.there.has refl
+pub write_path-requires-clause-above : goal.write_path-requires-clause-above
+write_path-requires-clause-above g c =
+    let path = c.in-Ok.ensures.path in
+    GoesUpBy-above g.row.D path.levels c.args.at c.in-Ok.stop (set c.args.entries.now.items c.args.at (c.args.key, c.args.item)) c.raise_at_returning_place.new.self.items path.way
 
--- what was answered of it
-answered : (g : Over) (c : After-at_most g) → c.at_most.result ≡ is_le (g.J.Judge.order (c.args.key, c.args.item) (get_or c.args.slots.now c.args.at c.index-slots-at.result)) →
-    c.at_most.result ≡ is_le (g.J.Judge.order (c.args.key, c.args.item) c.requires.there.entry)
-answered g c answer =
-    answer ∙ ap (λ e. is_le (g.J.Judge.order (c.args.key, c.args.item) e)) (get_or_from_slice_get c.args.slots.now c.args.at c.requires.there.entry c.index-slots-at.result c.requires.there.there)
-
-pub returns-then-at_most-clause-reached : goal.returns-then-at_most-clause-reached
-returns-then-at_most-clause-reached g c =
-    let xs = c.args.slots.now in let at = c.args.at in
+pub write_path-requires-clause-right : goal.write_path-requires-clause-right
+write_path-requires-clause-right g c =
+    let xs = c.args.entries.now.items in let at = c.args.at in
     let there = c.requires.there in
-    let s = (goal.at.returns-then-at_most-clause-reached g c).After-at_most in
-    let is = there_is g s in
-    let order = g.J.Judge.order in
-    let key = c.args.key in
-    let held = there.entry.1 in
-    let under : order (key, c.args.item) there.entry ≢ Greater = not_greater _ (sym (answered g s c.at_most.ensures.answer) ∙ c.if-at_most.true) in (
-      held,
-      (at, c.requires.inside, get_or_from_slice_get xs at (key, held) (key, held) (there.there ∙ ap Some is)),
-      λ greater. under (ap (order (key, c.args.item)) is ∙ greater),
-      refl,
-    )
-
-pub sift_up-requires : goal.sift_up-requires
-sift_up-requires g c = let there = c.requires.there in
-    same_key_but_at c.args.slots.now c.args.places.now c.args.at there.entry _ c.requires.inside there.there (sym there.has) c.requires.right
+    let put = same_key_but_at xs c.args.places.now at there.entry (c.args.key, c.args.item) (slice_get_within xs at there.entry there.there) there.there (sym there.has) c.requires.right in
+    rw c.as_slice.ensures.items (went_up g.row.D at c.in-Ok.stop (set xs at (c.args.key, c.args.item)) c.raise_at_returning_place.new.self.items c.args.places.now put c.in-Ok.ensures.path)
 
 pub returns-clause-raised : goal.returns-clause-raised
 returns-clause-raised g c =
+    let xs = c.args.entries.now.items in let at = c.args.at in
+    let key = c.args.key in
+    let x : ℕ × g.row.T.Denot = (key, c.args.item) in
     let there = c.requires.there in
-    let s = (goal.at.returns-clause-raised g c).After-at_most in
-    let order = g.J.Judge.order in (
-      there.entry.1,
-      item_instead c.args.slots.now c.sift_up.new.slots c.args.at c.args.key there.entry
-          (c.args.key, c.args.item) there.entry.1 c.args.item there.there there.has refl refl refl c.sift_up.ensures.bag,
-      ap (order (c.args.key, c.args.item)) (sym (there_is g s)) ∙ is_greater _ (sym (answered g s c.at_most.ensures.answer) ∙ c.if-at_most.false),
-      put_there c.args.slots.now c.sift_up.new.slots c.args.at (c.args.key, c.args.item) c.requires.inside c.sift_up.ensures.bag,
-    )
-
-pub returns-clause-ordered : goal.returns-clause-ordered
-returns-clause-ordered g c = λ h.
-    let xs = c.args.slots.now in let at = c.args.at in
-    let there = c.requires.there in
-    let s = (goal.at.returns-clause-ordered g c).After-at_most in
-    let new : ℕ × g.row.T.Denot = (c.args.key, c.args.item) in
-    let order = g.J.Judge.order in
-    let less = strictly_less g.met.J.Judge.total new there.entry (sym (answered g s c.at_most.ensures.answer) ∙ c.if-at_most.false) in
-    let under : order there.entry new ≢ Greater = λ e. (let no = sym less ∙ e in cc) in
-    let total = g.met.J.Judge.total in
-    c.sift_up.ensures.ordered (overwritten total g.row.D at xs new h) (none_greater total g.row.D at xs there.entry new c.requires.inside there.there under h)
+    let raised = c.in-Ok.ensures in
+    let new = c.raise_at_returning_place.new.self.items in
+    let inside : at < length xs = slice_get_within xs at there.entry there.there in
+    let less = there.entry.1 in
+    let held : c.in-Ok.field-0-0 ≡ there.entry = (let told = there.there in let item = raised.item in cc) in
+    let is : c.in-Ok.field-0-0 ≡ (key, less) = held ∙ entry_is there.entry key less there.has refl in
+    let low = GoesUp-le g.row.D at c.in-Ok.stop raised.path in
+    let stops : c.in-Ok.stop < length new = omega (arith, low, inside, raised.len) in
+    let carried = GoesTo-carries g.row.D at c.in-Ok.stop (set xs at x) new (omega (arith, inside, length-set xs at x)) stops (inl raised.path) in record {
+      given = Some less;
+      gets = record {
+        bag = subst (λ (e : ℕ × g.row.T.Denot). IsPermutation (x ∷ xs) (e ∷ new)) is raised.bag;
+        absent = tt;
+        has = (c.in-Ok.stop, stops, get_or_from_slice_get new c.in-Ok.stop x x (carried ∙ slice_get-set_same xs at x inside));
+      };
+      exceeds = subst (λ (e : ℕ × g.row.T.Denot). g.J.Judge.order x e ≡ Greater) is raised.greater;
+    }

@@ -1,6 +1,6 @@
 use Rattle.dheap.proofs.Common.{true≢false, refl, sym, ap, subst, subst₂, ◌∙◌, ◌+◌, ◌++◌, append-nil, take, Appends, append_known, text}
 use Rattle.dary_heap.specs.Reading as read
-use Rattle.dheap.proofs.Written.{whole-next, text-next, buffered, buffer_flushed, line-none, all_flushed, answered-end, answered-here, not-whole}
+use Rattle.dheap.proofs.Written.{whole-next, text-next, buffered, buffer_flushed, line-none, all_flushed, answered-end, answered-here, none_written, not-whole}
 use Rattle.dheap.proofs.serve.answers.write_answers.Goals.{then-len-ge-FLUSH_THRESHOLD+in_ok-flush_buffer-2, else-len-ge-FLUSH_THRESHOLD}
 use Rattle.dheap.proofs.serve.answers.write_answers.Goals as goal
 
@@ -36,5 +36,9 @@ returns-then-not-branch-clause-written g c =
 
 pub returns-clause-written : goal.returns-clause-written
 returns-clause-written g c =
+    none_written (g.W.Write.contents c.args.output.now) c.args.replies.now c.first-item.result c.in-len1-up.len_at_least c.first-item.is (sym c.has_answer.ensures ∙ c.if-not-has_answer.true)
+
+pub returns-2-clause-written : goal.returns-2-clause-written
+returns-2-clause-written g c =
     all_flushed _ _ _ _ _ _ _ (read.replies c.args.replies.now) c.loop-reply.invariant.written refl c.in_ok-flush_buffer-3.ensures.passed c.in_ok-flush-2.ensures.bytes
     (answered-end _ _ c.loop-reply-test.false c.loop-reply.invariant.whole)

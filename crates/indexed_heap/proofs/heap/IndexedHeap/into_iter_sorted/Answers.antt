@@ -1,5 +1,5 @@
-use Rattle.indexed_heap.proofs.Iterating.{entries_give}
+use Rattle.indexed_heap.proofs.Sound.{sound}
 use Rattle.indexed_heap.proofs.heap.IndexedHeap.into_iter_sorted.Goals as goal
 
-pub returns-clause-descending : goal.returns-clause-descending
-returns-clause-descending g c = entries_give g.J.Judge.order g.row.D _
+pub returns-clause-sound : goal.returns-clause-sound
+returns-clause-sound g c = rw (← c.self.view_is) (sound g.row.D c.self.inside.entries.items c.self.inside.places.items c.into_iter_sorted.ensures.ordered c.self.invariant)

@@ -3,6 +3,6 @@ use Rattle.indexed_heap.proofs.heap.convert.write_places.Given as goal
 
 abbrev pub invariant-loop-place : goal.invariant-loop-place
 invariant-loop-place g l = record {
-  written : (i : ℕ) (slot : ℕ × g.row.T.Denot) → i < l.place → slice_get l.slots i ≡ Some slot → slice_get l.places slot.0 ≡ Some i;
+  written : (i : ℕ) (entry : ℕ × g.row.T.Denot) → i < l.place → slice_get l.entries i ≡ Some entry → slice_get l.places entry.0 ≡ Some i;
   long : length l.places ≡ length l.initial.places;
 }

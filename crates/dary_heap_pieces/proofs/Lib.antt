@@ -1,6 +1,0 @@
-pub mod Common
-pub mod Counting
-pub mod Joining
-pub mod Linking
-pub mod Steps
-pub mod Words
