@@ -1,6 +1,7 @@
 -- The lemmas of the module `sift`, passed on from one place.
 pub mod Choosing
 pub mod Cost
+pub mod Ends
 pub mod Parts
 pub mod Raising
 pub mod Removing

@@ -6,6 +6,7 @@ pub mod Building
 pub mod Contents
 pub mod Drain
 pub mod DrainSorted
+pub mod Ends
 pub mod Extending
 pub mod Filtering
 pub mod HeapOrder
