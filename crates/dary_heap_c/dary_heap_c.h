@@ -27,8 +27,8 @@
  * children a place may have, from 1 to DARY_HEAP_ARITY_MAX.
  *
  * Each function returns true if it did what it says. It returns false, and nothing is changed, if the arity
- * isn't 1 to DARY_HEAP_ARITY_MAX, or a place or a start is out of the range that is said with the function. A
- * compiler that can warn does so if you ignore the result.
+ * isn't 1 to DARY_HEAP_ARITY_MAX, if there is no item to push, pop, replace, fix or remove, or if a place, a start or a
+ * value is out of the range that is said with the function. A compiler that can warn does so if you ignore the result.
  *
  * What you have to uphold
  *
@@ -93,88 +93,169 @@ struct dheap_sequenced {
     uint64_t value; /* as above */
 };
 
-/* Declares a function for max-heaps and for min-heaps of each kind of items, ten in all. The parameters stand behind
- * its name, and the type of an item is left out: DARY_HEAP_FUNCTION(push, *items, size_t len, size_t arity) declares
- *
- *   bool dheap_max_push_i64(int64_t *items, size_t len, size_t arity);
- *
- * and nine more. */
-#define DARY_HEAP_FUNCTION(function, ...)                                                                              \
-    DARY_HEAP_OF_ORDER(dheap_max_##function, __VA_ARGS__);                                                             \
-    DARY_HEAP_OF_ORDER(dheap_min_##function, __VA_ARGS__)
-#define DARY_HEAP_OF_ORDER(name, ...)                                                                                  \
-    DARY_HEAP_MUST_USE bool name##_i64(int64_t __VA_ARGS__);                                                           \
-    DARY_HEAP_MUST_USE bool name##_u64(uint64_t __VA_ARGS__);                                                          \
-    DARY_HEAP_MUST_USE bool name##_double(double __VA_ARGS__);                                                         \
-    DARY_HEAP_MUST_USE bool name##_entry(struct dheap_entry __VA_ARGS__);                                              \
-    DARY_HEAP_MUST_USE bool name##_sequenced(struct dheap_sequenced __VA_ARGS__)
-
 /* dheap_max_make_*, dheap_min_make_*: makes a heap of the items. Items that are a heap already stay where
  * they are.
  *
  * Cost: 2 * (len - 1) from arity 2 on, and len * (len - 1) / 2 at arity 1. None if there is no item. */
-DARY_HEAP_FUNCTION(make, *items, size_t len, size_t arity);
+DARY_HEAP_MUST_USE bool dheap_max_make_i64(int64_t *items, size_t len, size_t arity);
+DARY_HEAP_MUST_USE bool dheap_min_make_i64(int64_t *items, size_t len, size_t arity);
+DARY_HEAP_MUST_USE bool dheap_max_make_u64(uint64_t *items, size_t len, size_t arity);
+DARY_HEAP_MUST_USE bool dheap_min_make_u64(uint64_t *items, size_t len, size_t arity);
+DARY_HEAP_MUST_USE bool dheap_max_make_double(double *items, size_t len, size_t arity);
+DARY_HEAP_MUST_USE bool dheap_min_make_double(double *items, size_t len, size_t arity);
+DARY_HEAP_MUST_USE bool dheap_max_make_entry(struct dheap_entry *items, size_t len, size_t arity);
+DARY_HEAP_MUST_USE bool dheap_min_make_entry(struct dheap_entry *items, size_t len, size_t arity);
+DARY_HEAP_MUST_USE bool dheap_max_make_sequenced(struct dheap_sequenced *items, size_t len, size_t arity);
+DARY_HEAP_MUST_USE bool dheap_min_make_sequenced(struct dheap_sequenced *items, size_t len, size_t arity);
 
 /* dheap_max_push_*, dheap_min_push_*: adds the last item to the heap of the items before it. So write the new
- * item behind the heap, and call this with it counted in. If len is 0, nothing happens.
+ * item behind the heap, and call this with it counted in. Returns false if len is 0.
  *
- * Cost: the depth of place len - 1. None if len is 0. */
-DARY_HEAP_FUNCTION(push, *items, size_t len, size_t arity);
+ * Cost: the depth of place len - 1. */
+DARY_HEAP_MUST_USE bool dheap_max_push_i64(int64_t *items, size_t len, size_t arity);
+DARY_HEAP_MUST_USE bool dheap_min_push_i64(int64_t *items, size_t len, size_t arity);
+DARY_HEAP_MUST_USE bool dheap_max_push_u64(uint64_t *items, size_t len, size_t arity);
+DARY_HEAP_MUST_USE bool dheap_min_push_u64(uint64_t *items, size_t len, size_t arity);
+DARY_HEAP_MUST_USE bool dheap_max_push_double(double *items, size_t len, size_t arity);
+DARY_HEAP_MUST_USE bool dheap_min_push_double(double *items, size_t len, size_t arity);
+DARY_HEAP_MUST_USE bool dheap_max_push_entry(struct dheap_entry *items, size_t len, size_t arity);
+DARY_HEAP_MUST_USE bool dheap_min_push_entry(struct dheap_entry *items, size_t len, size_t arity);
+DARY_HEAP_MUST_USE bool dheap_max_push_sequenced(struct dheap_sequenced *items, size_t len, size_t arity);
+DARY_HEAP_MUST_USE bool dheap_min_push_sequenced(struct dheap_sequenced *items, size_t len, size_t arity);
 
 /* dheap_max_pop_*, dheap_min_pop_*: moves the first item of a heap to items[len - 1]. The items before it are a
- * heap afterwards. If len is 0 or 1, nothing happens.
+ * heap afterwards. Returns false if len is 0, so `while (dheap_min_pop_i64(items, len, 4)) len--;` ends.
  *
- * Cost: the arity times the depth of place len - 2. None if len is 0 or 1. */
-DARY_HEAP_FUNCTION(pop, *items, size_t len, size_t arity);
+ * Cost: the arity times the depth of place len - 2. None if len is 1. */
+DARY_HEAP_MUST_USE bool dheap_max_pop_i64(int64_t *items, size_t len, size_t arity);
+DARY_HEAP_MUST_USE bool dheap_min_pop_i64(int64_t *items, size_t len, size_t arity);
+DARY_HEAP_MUST_USE bool dheap_max_pop_u64(uint64_t *items, size_t len, size_t arity);
+DARY_HEAP_MUST_USE bool dheap_min_pop_u64(uint64_t *items, size_t len, size_t arity);
+DARY_HEAP_MUST_USE bool dheap_max_pop_double(double *items, size_t len, size_t arity);
+DARY_HEAP_MUST_USE bool dheap_min_pop_double(double *items, size_t len, size_t arity);
+DARY_HEAP_MUST_USE bool dheap_max_pop_entry(struct dheap_entry *items, size_t len, size_t arity);
+DARY_HEAP_MUST_USE bool dheap_min_pop_entry(struct dheap_entry *items, size_t len, size_t arity);
+DARY_HEAP_MUST_USE bool dheap_max_pop_sequenced(struct dheap_sequenced *items, size_t len, size_t arity);
+DARY_HEAP_MUST_USE bool dheap_min_pop_sequenced(struct dheap_sequenced *items, size_t len, size_t arity);
 
 /* dheap_max_replace_*, dheap_min_replace_*: the items were a heap, and then items[0] was overwritten by anything.
- * They are a heap afterwards. Items that are a heap already stay where they are. If len is 0, nothing happens.
+ * They are a heap afterwards. Items that are a heap already stay where they are. Returns false if len is 0.
  *
  * This does the work of a pop and a push in one way down. The new item is compared on its way down, so one that
  * stays near the front costs little. One that sinks to the last depth takes the arity in comparisons for each
  * level, where a pop and a push take one less a level and a short way up.
  *
- * Cost: the arity times the depth of place len - 1. None if len is 0. */
-DARY_HEAP_FUNCTION(replace, *items, size_t len, size_t arity);
+ * Cost: the arity times the depth of place len - 1. */
+DARY_HEAP_MUST_USE bool dheap_max_replace_i64(int64_t *items, size_t len, size_t arity);
+DARY_HEAP_MUST_USE bool dheap_min_replace_i64(int64_t *items, size_t len, size_t arity);
+DARY_HEAP_MUST_USE bool dheap_max_replace_u64(uint64_t *items, size_t len, size_t arity);
+DARY_HEAP_MUST_USE bool dheap_min_replace_u64(uint64_t *items, size_t len, size_t arity);
+DARY_HEAP_MUST_USE bool dheap_max_replace_double(double *items, size_t len, size_t arity);
+DARY_HEAP_MUST_USE bool dheap_min_replace_double(double *items, size_t len, size_t arity);
+DARY_HEAP_MUST_USE bool dheap_max_replace_entry(struct dheap_entry *items, size_t len, size_t arity);
+DARY_HEAP_MUST_USE bool dheap_min_replace_entry(struct dheap_entry *items, size_t len, size_t arity);
+DARY_HEAP_MUST_USE bool dheap_max_replace_sequenced(struct dheap_sequenced *items, size_t len, size_t arity);
+DARY_HEAP_MUST_USE bool dheap_min_replace_sequenced(struct dheap_sequenced *items, size_t len, size_t arity);
 
 /* dheap_max_fix_*, dheap_min_fix_*: the items were a heap, and then items[place] was overwritten by anything. They
- * are a heap afterwards. Items that are a heap already stay where they are. The place has to be below len.
+ * are a heap afterwards. Items that are a heap already stay where they are. Returns false if the place isn't below len.
  *
  * Cost: the depth of the place, and the arity for each level from there down to that of place len - 1. */
-DARY_HEAP_FUNCTION(fix, *items, size_t len, size_t arity, size_t place);
+DARY_HEAP_MUST_USE bool dheap_max_fix_i64(int64_t *items, size_t len, size_t arity, size_t place);
+DARY_HEAP_MUST_USE bool dheap_min_fix_i64(int64_t *items, size_t len, size_t arity, size_t place);
+DARY_HEAP_MUST_USE bool dheap_max_fix_u64(uint64_t *items, size_t len, size_t arity, size_t place);
+DARY_HEAP_MUST_USE bool dheap_min_fix_u64(uint64_t *items, size_t len, size_t arity, size_t place);
+DARY_HEAP_MUST_USE bool dheap_max_fix_double(double *items, size_t len, size_t arity, size_t place);
+DARY_HEAP_MUST_USE bool dheap_min_fix_double(double *items, size_t len, size_t arity, size_t place);
+DARY_HEAP_MUST_USE bool dheap_max_fix_entry(struct dheap_entry *items, size_t len, size_t arity, size_t place);
+DARY_HEAP_MUST_USE bool dheap_min_fix_entry(struct dheap_entry *items, size_t len, size_t arity, size_t place);
+DARY_HEAP_MUST_USE bool dheap_max_fix_sequenced(struct dheap_sequenced *items, size_t len, size_t arity, size_t place);
+DARY_HEAP_MUST_USE bool dheap_min_fix_sequenced(struct dheap_sequenced *items, size_t len, size_t arity, size_t place);
 
 /* dheap_max_remove_*, dheap_min_remove_*: moves the item at a place of a heap to items[len - 1]. The items before it
- * are a heap afterwards. The place has to be below len.
+ * are a heap afterwards. Returns false if the place isn't below len.
  *
  * Cost: that of a fix at the same place of len - 1 items. */
-DARY_HEAP_FUNCTION(remove, *items, size_t len, size_t arity, size_t place);
+DARY_HEAP_MUST_USE bool dheap_max_remove_i64(int64_t *items, size_t len, size_t arity, size_t place);
+DARY_HEAP_MUST_USE bool dheap_min_remove_i64(int64_t *items, size_t len, size_t arity, size_t place);
+DARY_HEAP_MUST_USE bool dheap_max_remove_u64(uint64_t *items, size_t len, size_t arity, size_t place);
+DARY_HEAP_MUST_USE bool dheap_min_remove_u64(uint64_t *items, size_t len, size_t arity, size_t place);
+DARY_HEAP_MUST_USE bool dheap_max_remove_double(double *items, size_t len, size_t arity, size_t place);
+DARY_HEAP_MUST_USE bool dheap_min_remove_double(double *items, size_t len, size_t arity, size_t place);
+DARY_HEAP_MUST_USE bool dheap_max_remove_entry(struct dheap_entry *items, size_t len, size_t arity, size_t place);
+DARY_HEAP_MUST_USE bool dheap_min_remove_entry(struct dheap_entry *items, size_t len, size_t arity, size_t place);
+DARY_HEAP_MUST_USE bool dheap_max_remove_sequenced(struct dheap_sequenced *items, size_t len, size_t arity,
+                                                   size_t place);
+DARY_HEAP_MUST_USE bool dheap_min_remove_sequenced(struct dheap_sequenced *items, size_t len, size_t arity,
+                                                   size_t place);
 
 /* dheap_max_mend_*, dheap_min_mend_*: the items before `start` are a heap, and those from there on were written
- * behind them. All are a heap afterwards. The start has to be at most len: if it is len, nothing happens.
+ * behind them. All are a heap afterwards. Returns false if the start is above len. If it is len, nothing is to be
+ * done.
  *
  * Cost: the greater of that of a make and, for each item from `start` on, the depth of place len - 1. None if
  * start is len. */
-DARY_HEAP_FUNCTION(mend, *items, size_t len, size_t arity, size_t start);
+DARY_HEAP_MUST_USE bool dheap_max_mend_i64(int64_t *items, size_t len, size_t arity, size_t start);
+DARY_HEAP_MUST_USE bool dheap_min_mend_i64(int64_t *items, size_t len, size_t arity, size_t start);
+DARY_HEAP_MUST_USE bool dheap_max_mend_u64(uint64_t *items, size_t len, size_t arity, size_t start);
+DARY_HEAP_MUST_USE bool dheap_min_mend_u64(uint64_t *items, size_t len, size_t arity, size_t start);
+DARY_HEAP_MUST_USE bool dheap_max_mend_double(double *items, size_t len, size_t arity, size_t start);
+DARY_HEAP_MUST_USE bool dheap_min_mend_double(double *items, size_t len, size_t arity, size_t start);
+DARY_HEAP_MUST_USE bool dheap_max_mend_entry(struct dheap_entry *items, size_t len, size_t arity, size_t start);
+DARY_HEAP_MUST_USE bool dheap_min_mend_entry(struct dheap_entry *items, size_t len, size_t arity, size_t start);
+DARY_HEAP_MUST_USE bool dheap_max_mend_sequenced(struct dheap_sequenced *items, size_t len, size_t arity, size_t start);
+DARY_HEAP_MUST_USE bool dheap_min_mend_sequenced(struct dheap_sequenced *items, size_t len, size_t arity, size_t start);
 
 /* dheap_max_sort_heap_*, dheap_min_sort_heap_*: sorts a heap. What comes first in the heap is last afterwards: a
  * max-heap ascends, and a min-heap descends. The items are no heap any more. Items that aren't a heap are moved
  * and not sorted: dheap_max_sort_* sorts any items.
  *
  * Cost: that of a pop at each length from len down to 2. */
-DARY_HEAP_FUNCTION(sort_heap, *items, size_t len, size_t arity);
+DARY_HEAP_MUST_USE bool dheap_max_sort_heap_i64(int64_t *items, size_t len, size_t arity);
+DARY_HEAP_MUST_USE bool dheap_min_sort_heap_i64(int64_t *items, size_t len, size_t arity);
+DARY_HEAP_MUST_USE bool dheap_max_sort_heap_u64(uint64_t *items, size_t len, size_t arity);
+DARY_HEAP_MUST_USE bool dheap_min_sort_heap_u64(uint64_t *items, size_t len, size_t arity);
+DARY_HEAP_MUST_USE bool dheap_max_sort_heap_double(double *items, size_t len, size_t arity);
+DARY_HEAP_MUST_USE bool dheap_min_sort_heap_double(double *items, size_t len, size_t arity);
+DARY_HEAP_MUST_USE bool dheap_max_sort_heap_entry(struct dheap_entry *items, size_t len, size_t arity);
+DARY_HEAP_MUST_USE bool dheap_min_sort_heap_entry(struct dheap_entry *items, size_t len, size_t arity);
+DARY_HEAP_MUST_USE bool dheap_max_sort_heap_sequenced(struct dheap_sequenced *items, size_t len, size_t arity);
+DARY_HEAP_MUST_USE bool dheap_min_sort_heap_sequenced(struct dheap_sequenced *items, size_t len, size_t arity);
 
 /* dheap_max_sort_*, dheap_min_sort_*: sorts the items, whatever they are: makes a heap of them, and sorts that.
  * With `max` they ascend afterwards, and with `min` they descend. It isn't stable. Of equal keys of
  * dheap_sequenced the lesser sequence number stands behind the greater ones.
  *
  * Cost: that of a make and a sort_heap. */
-DARY_HEAP_FUNCTION(sort, *items, size_t len, size_t arity);
+DARY_HEAP_MUST_USE bool dheap_max_sort_i64(int64_t *items, size_t len, size_t arity);
+DARY_HEAP_MUST_USE bool dheap_min_sort_i64(int64_t *items, size_t len, size_t arity);
+DARY_HEAP_MUST_USE bool dheap_max_sort_u64(uint64_t *items, size_t len, size_t arity);
+DARY_HEAP_MUST_USE bool dheap_min_sort_u64(uint64_t *items, size_t len, size_t arity);
+DARY_HEAP_MUST_USE bool dheap_max_sort_double(double *items, size_t len, size_t arity);
+DARY_HEAP_MUST_USE bool dheap_min_sort_double(double *items, size_t len, size_t arity);
+DARY_HEAP_MUST_USE bool dheap_max_sort_entry(struct dheap_entry *items, size_t len, size_t arity);
+DARY_HEAP_MUST_USE bool dheap_min_sort_entry(struct dheap_entry *items, size_t len, size_t arity);
+DARY_HEAP_MUST_USE bool dheap_max_sort_sequenced(struct dheap_sequenced *items, size_t len, size_t arity);
+DARY_HEAP_MUST_USE bool dheap_min_sort_sequenced(struct dheap_sequenced *items, size_t len, size_t arity);
 
 /* dheap_max_is_heap_*, dheap_min_is_heap_*: writes to *answer whether the items are a heap. `answer` points to a
  * bool.
  *
  * Cost: len - 1. None if len is 0. */
-DARY_HEAP_FUNCTION(is_heap, const *items, size_t len, size_t arity, bool *answer);
+DARY_HEAP_MUST_USE bool dheap_max_is_heap_i64(const int64_t *items, size_t len, size_t arity, bool *answer);
+DARY_HEAP_MUST_USE bool dheap_min_is_heap_i64(const int64_t *items, size_t len, size_t arity, bool *answer);
+DARY_HEAP_MUST_USE bool dheap_max_is_heap_u64(const uint64_t *items, size_t len, size_t arity, bool *answer);
+DARY_HEAP_MUST_USE bool dheap_min_is_heap_u64(const uint64_t *items, size_t len, size_t arity, bool *answer);
+DARY_HEAP_MUST_USE bool dheap_max_is_heap_double(const double *items, size_t len, size_t arity, bool *answer);
+DARY_HEAP_MUST_USE bool dheap_min_is_heap_double(const double *items, size_t len, size_t arity, bool *answer);
+DARY_HEAP_MUST_USE bool dheap_max_is_heap_entry(const struct dheap_entry *items, size_t len, size_t arity,
+                                                bool *answer);
+DARY_HEAP_MUST_USE bool dheap_min_is_heap_entry(const struct dheap_entry *items, size_t len, size_t arity,
+                                                bool *answer);
+DARY_HEAP_MUST_USE bool dheap_max_is_heap_sequenced(const struct dheap_sequenced *items, size_t len, size_t arity,
+                                                    bool *answer);
+DARY_HEAP_MUST_USE bool dheap_min_is_heap_sequenced(const struct dheap_sequenced *items, size_t len, size_t arity,
+                                                    bool *answer);
 
 /* Entries whose places are kept
  *
@@ -183,11 +264,16 @@ DARY_HEAP_FUNCTION(is_heap, const *items, size_t len, size_t arity, bool *answer
  * value without a look at the others, to be changed or removed.
  *
  * `places` points to `count` numbers, as `items` does to `len` items, and the two arrays have no byte in common.
+ *
+ * A push returns false, and changes nothing, if the value of the last item isn't below `count`, and so does a fix if
+ * that of the item at the place isn't. So a heap that grew from no item by these functions has no such value.
+ *
  * What is said of places holds if
  *
- * - no two items have the same value, and each value is below `count`, and
- * - places[value] is the place of the item with that value, for each item but the one that is pushed, popped, fixed
- *   or removed. So the item at the place of a fix may have been overwritten by one with another value.
+ * - no two items have the same value, and
+ * - places[value] is the place of the item with that value, for each item, but it may be wrong for the one that is
+ *   pushed, popped, fixed or removed, if its value is below `count`. So the item at the place of a fix or a remove may
+ *   have been overwritten by one with another value.
  *
  * Then it is the place of each of the `len` items afterwards, also of the one that a pop or a remove puts behind the
  * others. The place of a value that no item has may be any number, and stays as it is. So there is an item with a
@@ -195,20 +281,25 @@ DARY_HEAP_FUNCTION(is_heap, const *items, size_t len, size_t arity, bool *answer
  *
  * If these two don't hold, places may be wrong afterwards. What is said of the items holds all the same, and nothing
  * outside the two arrays is read or written. */
-#define DARY_HEAP_KEYED(function, ...)                                                                                 \
-    DARY_HEAP_MUST_USE bool dheap_max_##function##_keyed(struct dheap_entry *items, size_t len, size_t arity,          \
-                                                         __VA_ARGS__);                                                 \
-    DARY_HEAP_MUST_USE bool dheap_min_##function##_keyed(struct dheap_entry *items, size_t len, size_t arity,          \
-                                                         __VA_ARGS__)
+DARY_HEAP_MUST_USE bool dheap_max_push_keyed(struct dheap_entry *items, size_t len, size_t arity, size_t *places,
+                                             size_t count);
+DARY_HEAP_MUST_USE bool dheap_min_push_keyed(struct dheap_entry *items, size_t len, size_t arity, size_t *places,
+                                             size_t count);
 
-DARY_HEAP_KEYED(push, size_t *places, size_t count);
-DARY_HEAP_KEYED(pop, size_t *places, size_t count);
-DARY_HEAP_KEYED(fix, size_t place, size_t *places, size_t count);
-DARY_HEAP_KEYED(remove, size_t place, size_t *places, size_t count);
+DARY_HEAP_MUST_USE bool dheap_max_pop_keyed(struct dheap_entry *items, size_t len, size_t arity, size_t *places,
+                                            size_t count);
+DARY_HEAP_MUST_USE bool dheap_min_pop_keyed(struct dheap_entry *items, size_t len, size_t arity, size_t *places,
+                                            size_t count);
 
-#undef DARY_HEAP_FUNCTION
-#undef DARY_HEAP_OF_ORDER
-#undef DARY_HEAP_KEYED
+DARY_HEAP_MUST_USE bool dheap_max_fix_keyed(struct dheap_entry *items, size_t len, size_t arity, size_t place,
+                                            size_t *places, size_t count);
+DARY_HEAP_MUST_USE bool dheap_min_fix_keyed(struct dheap_entry *items, size_t len, size_t arity, size_t place,
+                                            size_t *places, size_t count);
+
+DARY_HEAP_MUST_USE bool dheap_max_remove_keyed(struct dheap_entry *items, size_t len, size_t arity, size_t place,
+                                               size_t *places, size_t count);
+DARY_HEAP_MUST_USE bool dheap_min_remove_keyed(struct dheap_entry *items, size_t len, size_t arity, size_t place,
+                                               size_t *places, size_t count);
 
 #ifdef __cplusplus
 }

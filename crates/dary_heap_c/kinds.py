@@ -1,15 +1,16 @@
 #!/usr/bin/env python3
 """Makes the functions of each kind and order from those for max-heaps of src/signed.rt and src/keyed.rt, which are
-written by hand.
+written by hand, and their declarations from those of the header.
 
-    kinds.py            writes them behind the line MARK of each source
-    kinds.py --check    says instead which sources have others there, and fails if one has
+    kinds.py            writes them behind the line MARK of each source, and in the header behind the declaration by hand
+    kinds.py --check    says instead which files have others there, and fails if one has
 """
 import pathlib
 import re
 import sys
 
-SOURCES = pathlib.Path(__file__).resolve().parent / "src"
+HERE = pathlib.Path(__file__).resolve().parent
+SOURCES, HEADER = HERE / "src", HERE / "dary_heap_c.h"
 MARK = "// `kinds.py` makes what follows.\n\n"
 # What the functions written by hand have for five words: the order, the end of a name, the type of an item, how items
 # are compared, and the judge.
@@ -30,6 +31,17 @@ MADE = [
     ("sequenced", "signed", "min", "sequenced", "Item", "(flip_args key_then_later)", "LeastFirst(ByLater::new())"),
     ("keyed", "keyed", "min", "keyed", "Entry", "(flip_args by_key)", "LeastFirst(ByKey::new())"),
 ]
+# What the header has for the type of an item.
+IN_C = {
+    "i64": "int64_t",
+    "u64": "uint64_t",
+    "double": "double",
+    "entry": "struct dheap_entry",
+    "sequenced": "struct dheap_sequenced",
+    "keyed": "struct dheap_entry",
+}
+# A declaration that is written by hand, and those behind it.
+DECLARED = re.compile(r"^(DARY_HEAP_MUST_USE bool dheap_max_(\w+)_(i64|keyed)\([^;]*;)\n(?:.+\n)*", re.M)
 
 
 def path(source):
@@ -68,6 +80,27 @@ def in_lines(signature):
     return "\n".join([name, *(f"    {it}," for it in parameters.split(", ")), result])
 
 
+def declarations(found):
+    """Returns a declaration written by hand, and those of the other kinds and orders."""
+    by_hand, function, ending = found.groups()
+    origin = next(it for it, words in BY_HAND.items() if words[1] == ending)
+    kinds = [words[:2] for _, of, *words in MADE if of == origin]
+    plain = re.sub(r"\s+", " ", by_hand)
+    made = [
+        plain.replace(f"dheap_max_{function}_{ending}", f"dheap_{which}_{function}_{it}").replace(f"{IN_C[ending]} *items", f"{IN_C[it]} *items")
+        for which, it in kinds
+    ]
+    return "".join(f"{in_columns(it)}\n" for it in [plain, *made])
+
+
+def in_columns(declaration):
+    """Breaks a declaration of more than 120 columns before its last parameters."""
+    if len(declaration) <= 120:
+        return declaration
+    at = declaration.rindex(", ", 0, 119) + 1
+    return declaration[:at] + "\n" + " " * (declaration.index("(") + 1) + declaration[at + 1 :]
+
+
 def main():
     if sys.argv[1:] not in ([], ["--check"]):
         sys.exit(__doc__)
@@ -76,12 +109,14 @@ def main():
     for source, origin, *words in MADE:
         functions = made(functions_of(sources[origin][0]), BY_HAND[origin], *words)
         wanted[source] += ("\n" if wanted[source] else "") + functions
-    others = [source for source in sources if sources[source][1] != wanted[source]]
-    for source in others:
+    header = DECLARED.sub(declarations, HEADER.read_text(encoding="utf-8"))
+    files = {HEADER: header, **{path(it): by_hand + MARK + wanted[it] for it, (by_hand, _) in sources.items()}}
+    others = [it for it, text in files.items() if it.read_text(encoding="utf-8") != text]
+    for it in others:
         if sys.argv[1:]:
-            print(f"src/{source}.rt has other functions than kinds.py makes")
+            print(f"{it.relative_to(HERE)} has other functions than kinds.py makes")
         else:
-            path(source).write_text(sources[source][0] + MARK + wanted[source], encoding="utf-8")
+            it.write_text(files[it], encoding="utf-8")
     return 1 if sys.argv[1:] and others else 0
 
 

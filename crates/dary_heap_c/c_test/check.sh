@@ -53,8 +53,8 @@ make -s -C .. install "PREFIX=$room/installed" || fail 'make install failed'
 library=$room/installed/lib/libdary_heap_c.a
 header=$room/installed/include/dary_heap_c.h
 
-# The exported symbols are the functions of the header, and nothing from outside is called.
-"${compiler[@]}" -E -x c "$header" | grep -oE '\bdheap_(max|min)_\w+\(' | tr -d '(' | sort > "$room/declared"
+# The exported symbols are the functions that the header declares, each in plain words, and nothing from outside is called.
+sed -nE 's/^DARY_HEAP_MUST_USE bool (dheap_\w+)\(.*/\1/p' "$header" | sort > "$room/declared"
 for it in "$library" "$room/other.a"; do
     nm -g --defined-only "$it" | awk 'NF == 3 { print $3 }' | sort > "$room/exported"
     diff -- "$room/declared" "$room/exported" || fail "the symbols of ${it##*/} aren't the functions of the header"
@@ -128,6 +128,7 @@ say 'the examples and the program of README.md print what they should'
 compile answers answers.c
 "${compiler[@]}" -std=c11 "${strict[@]}" -I "$room/installed/include" -o "$room/other" answers.c "$room/other.a" -lm
 "$room/other" | sed 's/$/, as the other backend builds the library/' || fail 'the other backend builds it wrongly'
+grep -q "other backend says ${stack#*=} bytes" ../README.md || fail "README.md has another figure than ${stack#*=} bytes of stack"
 say "by that backend a call takes at most ${stack#*=} bytes of stack"
 
 # A compiler that can warn of an ignored result must.

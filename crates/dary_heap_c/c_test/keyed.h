@@ -151,7 +151,16 @@ static void test_commands(struct keyed *it) {
     }
 }
 
-/* Values that are too great or that several items have, and places that are wrong, do no harm to the items. */
+/* Makes a call that is to change nothing. */
+static void changes_nothing(enum function function, struct keyed *it, size_t place, const char *what) {
+    const struct keyed given = *it;
+    KEYED_CHECK(!made_keyed(function, it, place), function, what);
+    KEYED_CHECK(memcmp(it->items, given.items, sizeof given.items) == 0, function, "an item was written");
+    KEYED_CHECK(memcmp(it->places, given.places, sizeof given.places) == 0, function, "a place was written");
+}
+
+/* Values that are too great or that several items have, and places that are wrong, do no harm to the items. A value that
+ * is too great comes in by no push and no fix. */
 static void test_any_places(struct keyed *it) {
     const uint64_t great[] = {VALUES, UINT64_MAX, UINT64_MAX - 1, UINT64_C(1) << 61, UINT64_C(1) << 63};
     const enum function functions[] = {PUSH, POP, FIX, REMOVE};
@@ -167,11 +176,15 @@ static void test_any_places(struct keyed *it) {
         KEYED_CHECK(call_entry(MAKE, it->items, heap, 0), MAKE, "it returns false");
         if (function == FIX || function == REMOVE)
             it->items[place].key = drawn_key(time);
-        keeps_items(function, it, place);
+        const uint64_t value = it->items[function == PUSH ? it->len - 1 : place].value;
+        if ((function == PUSH || function == FIX) && value >= it->count)
+            changes_nothing(function, it, place, "it takes a value without a place");
+        else
+            keeps_items(function, it, place);
     }
 }
 
-/* If the arity or a place is out of range, neither array changes. */
+/* If the arity, a place or a value is out of range, neither array changes. */
 static void test_keyed_out_of_range(struct keyed *it) {
     const enum function functions[] = {PUSH, POP, FIX, REMOVE};
     const size_t known = arity, unknown[] = {0, 9, 10, SIZE_MAX};
@@ -180,26 +193,29 @@ static void test_keyed_out_of_range(struct keyed *it) {
         it->items[i] = (struct dheap_entry){drawn_key(2), i};
         it->places[i] = 1000 + i;
     }
-    const struct keyed given = *it;
     for (size_t u = 0; u < sizeof unknown / sizeof *unknown; u++)
         for (size_t f = 0; f < 4; f++) {
             arity = unknown[u];
-            KEYED_CHECK(!made_keyed(functions[f], it, 0), functions[f], "it knows this arity");
+            changes_nothing(functions[f], it, 0, "it knows this arity");
         }
     arity = known;
     for (size_t f = 2; f < 4; f++) {
-        KEYED_CHECK(!made_keyed(functions[f], it, it->len), functions[f], "it knows a place past the last");
-        KEYED_CHECK(!made_keyed(functions[f], it, SIZE_MAX), functions[f], "it knows this place");
+        changes_nothing(functions[f], it, it->len, "it knows a place past the last");
+        changes_nothing(functions[f], it, SIZE_MAX, "it knows this place");
     }
-    KEYED_CHECK(memcmp(it->items, given.items, sizeof given.items) == 0, ANY, "an item was written");
-    KEYED_CHECK(memcmp(it->places, given.places, sizeof given.places) == 0, ANY, "a place was written");
+    if (it->len == 0)
+        return;
+    it->count = it->len - 1;
+    changes_nothing(PUSH, it, 0, "it takes a value without a place");
+    changes_nothing(FIX, it, it->len - 1, "it takes a value without a place");
 }
 
 static void test_keyed(void) {
     for (enum place where = 0; where < PLACES; where++) {
         struct keyed it = {.where = where};
-        it.len = it.count = 0;
-        check(made_keyed(PUSH, &it, 0) && made_keyed(POP, &it, 0), ANY, "keyed", 0, "it returns false for no item");
+        const enum function functions[] = {PUSH, POP, FIX, REMOVE};
+        for (size_t f = 0; f < 4; f++)
+            changes_nothing(functions[f], &it, 0, "it finds an item where there is none");
         for (size_t time = 0; time < 8; time++) {
             test_commands(&it);
             test_any_places(&it);

@@ -103,8 +103,8 @@ static void LOCAL(sorts)(enum function function, ITEM *items, size_t len) {
 
 /* Of an array that is no heap each call keeps the items. */
 static void LOCAL(test_any)(ITEM *items, const ITEM *given, size_t len) {
-    const enum function end = len > 0 ? IS_HEAP : FIX;
-    for (enum function function = PUSH; function < end; function++) {
+    const enum function begin = len > 0 ? PUSH : SORT_HEAP, end = len > 0 ? IS_HEAP : FIX;
+    for (enum function function = begin; function < end; function++) {
         memcpy(items, given, len * sizeof *items);
         LOCAL(moves)(function, items, len, function < FIX ? 0 : drawn(len), len);
     }
@@ -180,6 +180,8 @@ static void LOCAL(test_out_of_range)(ITEM *items, size_t len) {
         CHECK(!CALL(is_heap, items, len, arity, &yes) && yes, IS_HEAP, "it knows this arity");
     }
     arity = known;
+    for (enum function function = PUSH; function < SORT_HEAP; function++)
+        CHECK(!LOCAL(call)(function, items, 0, 0), function, "it finds an item where there is none");
     for (enum function function = FIX; function < IS_HEAP; function++) {
         const size_t past = function == MEND ? len + 1 : len;
         CHECK(!LOCAL(call)(function, items, len, past), function, "it knows a place past the last");

@@ -1,5 +1,5 @@
 -- What keeps places right.
-use Rattle.dary_heap.proofs.Common.{◌≡◌, ◌≢◌, ◌⊎◌, ◌-◌, ◌<◌, ◌≤◌, ◌∷◌, ◌++◌, ◌∙◌, ℕ, List, [], length, map, set, get_or, swap, refl, sym, ap, subst, arith, inl, inr, Some, slice_get}
+use Rattle.dary_heap.proofs.Common.{◌≡◌, ◌≢◌, ◌⊎◌, ◌-◌, ◌<◌, ◌≤◌, ◌∷◌, ◌++◌, ◌∙◌, ℕ, List, [], length, map, set, take, get_or, swap, refl, sym, ap, subst, arith, inl, inr, Some, slice_get}
 use Rattle.dary_heap.proofs.Common.{cases_eq, cases_lt, IsPermutation, IsPermutation-append_left, IsPermutation-sym, IsPermutation-trans, Contains-permutation, IsDistinct}
 use Rattle.dary_heap.proofs.Common.{IsDistinct-IsPermutation, nat_eq, nat_eq_equiv, ne_eqb, eqb-false, Ordering, IsHeapOrdered, IsHeapOrderedButAt, length-append, length-map}
 use Rattle.dary_heap.proofs.Common.{length-set, length_permutation, get_or_from_slice_get, slice_get-get_or, slice_get_within}
@@ -7,16 +7,18 @@ use Rattle.dary_heap.proofs.Depth.{parent-below}
 use Rattle.dary_heap.proofs.Order.{Exchanges, exchanges, read, slice_get-set_other, slice_get-set_same, slice_get-append, slice_get-push}
 use Rattle.dary_heap.proofs.Path.{GoesUpBy-above, above-le, next_on_path, on_path_or_still}
 use Rattle.dary_heap.proofs.sift.Parts.{whole}
-use Rattle.dary_heap.proofs.sift.Sorting.{moved_last}
+use Rattle.dary_heap.proofs.sift.Sorting.{but_last_is, moved_last}
+use Rattle.dary_heap.specs.Ends.{GivesPlace}
 use Rattle.dary_heap.specs.HeapOrder.{parent}
-use Rattle.dary_heap.specs.Path.{GoesUp, IsOnPath}
+use Rattle.dary_heap.specs.Path.{GoesTo, GoesUp, IsOnPath}
+use Rattle.std.proofs.lemmas.List.{take_at}
 use Rattle.std.proofs.lemmas.List.Sorted.{IsPermutation-map, IsPermutation-swap}
 use Rattle.std.proofs.lemmas.Map.Keys.{IsDistinct-from_apart, apart_from_distinct}
 use Rattle.std.proofs.lemmas.Option.{slice_get-map}
 use Rattle.std.specs.Option.{option_map}
 use Rattle.std.specs.Prelude.{pos}
 use Rattle.dary_heap_c.specs.declared.entry.Entry.{Entry}
-use Rattle.dary_heap_c.specs.Places.{AreRight, AreRightOffPath, HaveKeys, IsFree, Rights}
+use Rattle.dary_heap_c.specs.Places.{AreDistinct, AreRight, AreRightButAt, AreRightOffPath, HaveKeys, IsFree, IsKeyAt, Rights}
 
 -- what would be read past the end
 abbrev pub zero_entry : Entry
@@ -93,12 +95,22 @@ keys_moved xs ys same keys =
       ];
     }
 
+-- a value whose place is right is one
+have_keys : {place : ℕ} (xs : List Entry) (places : List ℕ) → AreDistinct xs → IsKeyAt (length places) place xs → AreRightButAt place xs places → HaveKeys (length places) xs
+have_keys {place = place} xs places apart key h = record {
+  below = λ i item there. elim (cases_eq i place) [
+    | inl is ↦ key.below item (subst (λ (k : ℕ). slice_get xs k ≡ Some item) is there)
+    | inr other ↦ slice_get_within places item.value i (h.elsewhere i item other there)
+  ];
+  distinct = apart.distinct;
+}
+
 -- items moved along a path, and their places are written
 module _ (D low high : ℕ) (xs ys : List Entry) (before after : List ℕ) (same : IsPermutation xs ys) (right : HaveKeys (length before) ys → AreRightOffPath D low high ys before → AreRight ys after)
     (others : (value : ℕ) → IsFree value ys → slice_get after value ≡ slice_get before value) where
   moved : (from : ℕ) → IsOnPath D low high from → ((i : ℕ) → IsOnPath D low high i ⊎ (slice_get ys i ≡ slice_get xs i)) → Rights from xs ys before after
   moved from on still = record {
-    right = λ keys h. right (keys_moved xs ys same keys) (record {
+    right = λ apart key h. right (keys_moved xs ys same (have_keys xs before apart key h)) (record {
       elsewhere = λ i item off here. elim (still i) [
         | inl along ↦ absurd (off along)
         | inr stays ↦ h.elsewhere i item (λ is. off (subst (IsOnPath D low high) (sym is) on)) (sym stays ∙ here)
@@ -139,10 +151,17 @@ module _ (xs rest : List Entry) (last : Entry) (place : ℕ) (inside : place < l
     pub comes_last : slice_get (zs ++ last ∷ []) (length (zs ++ last ∷ []) - 1) ≡ slice_get xs place
     comes_last = moved_last zs last ∙ sym was_last
 
+    -- and those of the others that have moved are on the path of the last
+    pub gives_place : (D to : ℕ) → GoesTo D place to rest zs → GivesPlace D place to xs (zs ++ last ∷ [])
+    gives_place D to way =
+        let front : take (length xs - 1) (swap xs place (length xs - 1)) ≡ rest = ap (take (length xs - 1)) is ∙ take_at rest (last ∷ []) (length xs - 1) (omega (arith, one_less)) in
+        subst (λ l. GoesTo D place to l (take (length (zs ++ last ∷ []) - 1) (zs ++ last ∷ []))) (sym front) (subst (GoesTo D place to rest) (sym (but_last_is zs last)) way)
+
     -- the places of the others become right, and that of the last stays
     pub removed : (before after : List ℕ) → Rights place rest zs (set before last.value (length xs - 1)) after → Rights place xs (zs ++ last ∷ []) before after
     removed before after h = record {
-      right = λ keys right.
+      right = λ apart key right.
+          let keys = have_keys xs before apart key right in
           let at = length xs - 1 in
           let now = set before last.value at in
           let moved = keys_moved xs (rest ++ last ∷ []) whole_bag keys in
@@ -150,11 +169,9 @@ module _ (xs rest : List Entry) (last : Entry) (place : ℕ) (inside : place < l
           slice_get-append rest (last ∷ []) i (slice_get_within rest i item there) ∙ there in
           let other : (i : ℕ) (item : Entry) → slice_get rest i ≡ Some item → item.value ≢ last.value = λ i item there equal.
           let one = moved.distinct i (length rest) item last (front i item there) (slice_get-push rest last) equal in omega (arith, one, slice_get_within rest i item there) in
-          let kept : HaveKeys (length now) rest = record {
-            below = λ i item there. omega (arith, moved.below i item (front i item there), length-set before last.value at);
-            distinct = λ i j a b there here equal. moved.distinct i j a b (front i a there) (front j b here) equal;
-          } in
-          let sifted = h.right kept (record {
+          let still : AreDistinct rest = record { distinct = λ i j a b there here equal. moved.distinct i j a b (front i a there) (front j b here) equal } in
+          let below : IsKeyAt (length now) place rest = record { below = λ item there. omega (arith, moved.below place item (front place item there), length-set before last.value at) } in
+          let sifted = h.right still below (record {
             elsewhere = λ i item apart there. slice_get-set_other before last.value item.value at (other i item there)
                 ∙ right.elsewhere i item apart (sym (others_stay i apart (slice_get_within rest i item there)) ∙ there);
           }) in
@@ -179,7 +196,7 @@ module _ (xs rest : List Entry) (last : Entry) (place : ℕ) (inside : place < l
 -- there is no item at the place
 pub none_there : (place : ℕ) (xs : List Entry) (places : List ℕ) → length xs ≤ place → Rights place xs xs places places
 none_there place xs places none = record {
-  right = λ keys h. record { right = λ i item there. h.elsewhere i item (let within = slice_get_within xs i item there in omega (arith, within, none)) there };
+  right = λ apart key h. record { right = λ i item there. h.elsewhere i item (let within = slice_get_within xs i item there in omega (arith, within, none)) there };
   others = λ value free. refl;
 }
 

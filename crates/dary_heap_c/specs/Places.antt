@@ -4,6 +4,14 @@ use Rattle.std.specs.Bool.{OnTrue, OnFalse}
 use Rattle.dary_heap.specs.Path.{IsOnPath}
 use Rattle.dary_heap_c.specs.declared.entry.Entry.{Entry}
 
+-- no two items have the same value
+pub record AreDistinct (items : List Entry) : Type 0 where
+  pub distinct : (i j : ℕ) (a b : Entry) → slice_get items i ≡ Some a → slice_get items j ≡ Some b → a.value ≡ b.value → i ≡ j
+
+-- the item at the place, if there is one, has a value below the limit
+pub record IsKeyAt (limit place : ℕ) (items : List Entry) : Type 0 where
+  pub below : (item : Entry) → slice_get items place ≡ Some item → item.value < limit
+
 -- no two items have the same value, and each value is below the limit
 pub record HaveKeys (limit : ℕ) (items : List Entry) : Type 0 where
   pub below : (i : ℕ) (item : Entry) → slice_get items i ≡ Some item → item.value < limit
@@ -25,9 +33,9 @@ pub record AreRightButAt (place : ℕ) (items : List Entry) (places : List ℕ) 
 pub record AreRightOffPath (D low high : ℕ) (items : List Entry) (places : List ℕ) : Type 0 where
   pub elsewhere : (i : ℕ) (item : Entry) → (IsOnPath D low high i → ⊥) → slice_get items i ≡ Some item → slice_get places item.value ≡ Some i
 
--- the places become right if they were right but for that of the item at place. Those of values that no item has stay, whatever the places were
+-- the places become right if they were right but for that of the item at place, whose value has one, and no two items have the same value. Those of values that no item has stay, whatever the places were
 pub record Rights (place : ℕ) (old new : List Entry) (before after : List ℕ) : Type 0 where
-  pub right : HaveKeys (length before) old → AreRightButAt place old before → AreRight new after
+  pub right : AreDistinct old → IsKeyAt (length before) place old → AreRightButAt place old before → AreRight new after
   pub others : (value : ℕ) → IsFree value old → slice_get after value ≡ slice_get before value
 
 -- the same for a call that does its work or changes nothing

@@ -3,15 +3,24 @@
 //! `places[value]` is the place of the entry with that value. It may be any number if no entry has the value. A value
 //! past the end of `places` has no place. A caller in C may give any array, so each index into it is checked: what is
 //! promised of the entries holds whatever the places are.
-ghost use Rattle.std.specs.Prelude.{◌≡◌, ◌-◌, ◌<◌, ℕ, length, set, slice_get, take};
+ghost use Rattle.std.specs.Prelude.{◌≡◌, ◌-◌, ◌<◌, ◌↔◌, ℕ, length, set, slice_get, take, IsTrue};
 ghost use Rattle.dary_heap.specs.Bag.{IsSameBag};
 ghost use Rattle.dary_heap.specs.Bounds.{RisesWithin, fix_bound, pop_bound, push_bound};
 ghost use Rattle.dary_heap.specs.HeapOrder.{IsHeapOrdered, IsHeapOrderedButAt};
-ghost use Rattle.dary_heap.specs.Path.{GoesUp};
-ghost use Rattle.dary_heap_c.specs.Places.{AreRight, AreRightOffPath, HaveKeys, IsFree, Rights};
+ghost use Rattle.dary_heap.specs.Ends.{GivesPlace};
+ghost use Rattle.dary_heap.specs.Path.{GoesTo, GoesUp};
+ghost use Rattle.dary_heap_c.specs.Places.{AreRight, AreRightOffPath, HaveKeys, IsFree, IsKeyAt, Rights};
 
 use crate::entry::Entry;
 use dary_heap::sift::{Judge, fix_with, parent, sift_to_bottom_with, sift_up_with};
+
+/// Returns `true` if there is an entry at the place, and its value has a place.
+pub fn has_key_at(entries: &[Entry], place: usize, places: &[usize]) -> bool
+    ensures { IsTrue result ↔ (place < length entries.now)
+        × IsKeyAt (length places.now) place entries.now }
+{
+    place < entries.len() && (entries[place].value as usize) < places.len()
+}
 
 /// Writes the place of the entry with a value, if the value has one.
 #[inline(always)]
@@ -49,18 +58,15 @@ pub fn push_keyed<J: Judge<Entry>, const D: usize>(
     places: &mut [usize],
     judge: &mut J,
 )
+    requires { 0 < length entries.old }
     ensures bag { IsSameBag entries.old entries.new }
     ensures ordered { IsHeapOrdered J.order D (take (length entries.old - 1) entries.old)
         → IsHeapOrdered J.order D entries.new }
     ensures counted { RisesWithin (J.count judge.old) (J.count judge.new)
         (push_bound D (length entries.old - 1)) }
-    ensures path { 0 < length entries.old → (place : ℕ)
-        × GoesUp D (length entries.old - 1) place entries.old entries.new }
+    ensures path { (to : ℕ) × GoesUp D (length entries.old - 1) to entries.old entries.new }
     ensures rights { Rights (length entries.old - 1) entries.old entries.new places.old places.new }
 {
-    if entries.is_empty() {
-        return;
-    }
     let last = entries.len() - 1;
     let stop = sift_up_with::<_, J, D>(entries, last, judge);
     write_path::<D>(entries, places, last, stop);
@@ -78,6 +84,7 @@ pub fn fix_keyed<J: Judge<Entry>, const D: usize>(
     ensures ordered { IsHeapOrderedButAt J.order D place entries.old
         → IsHeapOrdered J.order D entries.new }
     ensures kept { IsHeapOrdered J.order D entries.old → entries.new ≡ entries.old }
+    ensures path { (to : ℕ) × GoesTo D place to entries.old entries.new }
     ensures counted { RisesWithin (J.count judge.old) (J.count judge.new)
         (fix_bound D (length entries.old) place) }
     ensures rights { Rights place entries.old entries.new places.old places.new }
@@ -98,6 +105,7 @@ pub fn remove_keyed<J: Judge<Entry>, const D: usize>(
     ensures last { slice_get entries.new (length entries.new - 1) ≡ slice_get entries.old place }
     ensures ordered { IsHeapOrderedButAt J.order D place entries.old
         → IsHeapOrdered J.order D (take (length entries.new - 1) entries.new) }
+    ensures path { (to : ℕ) × GivesPlace D place to entries.old entries.new }
     ensures counted { RisesWithin (J.count judge.old) (J.count judge.new)
         (fix_bound D (length entries.old - 1) place) }
     ensures rights { Rights place entries.old entries.new places.old places.new }
@@ -119,17 +127,16 @@ pub fn pop_keyed<J: Judge<Entry>, const D: usize>(
     places: &mut [usize],
     judge: &mut J,
 )
+    requires { 0 < length entries.old }
     ensures bag { IsSameBag entries.old entries.new }
     ensures last { slice_get entries.new (length entries.new - 1) ≡ slice_get entries.old 0 }
     ensures ordered { IsHeapOrdered J.order D entries.old
         → IsHeapOrdered J.order D (take (length entries.new - 1) entries.new) }
+    ensures path { (to : ℕ) × GivesPlace D 0 to entries.old entries.new }
     ensures counted { RisesWithin (J.count judge.old) (J.count judge.new)
         (pop_bound D (length entries.old)) }
     ensures rights { Rights 0 entries.old entries.new places.old places.new }
 {
-    if entries.is_empty() {
-        return;
-    }
     let end = entries.len() - 1;
     entries.swap(0, end);
     let Some((popped, rest)) = entries.split_last_mut() else {

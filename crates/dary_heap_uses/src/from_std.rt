@@ -2,18 +2,22 @@
 ghost use Rattle.std.specs.BinaryHeap.{IsHeap, heap_items};
 ghost use Rattle.std.specs.BTreeMap.{get};
 ghost use Rattle.std.specs.Ordering.{nat_cmp};
-ghost use Rattle.std.specs.Prelude.{◌≡◌, ◌≢◌, ℕ, ◌+◌, ◌<◌, ◌≤◌, ◌-◌, ◌↔◌, [], ◌∷◌, ◌++◌, nat_lt, All, count_by, length, vec_len, IsOk, IsSome, IfSome, IfNone, IfOk, OnOk, OnErr};
+ghost use Rattle.std.specs.Prelude.{◌≡◌, ◌≢◌, ℕ, ◌+◌, ◌<◌, ◌≤◌, ◌-◌, ◌↔◌, [], ◌∷◌, ◌++◌, nat_lt, All, count_by, length, vec_len, IsOk, IsSome, Some, IfSome, IfNone, IfOk, OnOk, OnErr};
+ghost use Rattle.dary_heap.specs.Appending.{receiving_capacity};
 ghost use Rattle.dary_heap.specs.Bag.{IsSameBag};
+ghost use Rattle.dary_heap.specs.Contents.{Contents};
 ghost use Rattle.dary_heap_uses.specs.FromStd.{NoneHigher, up_to, Falls, IsLead, IsRange, prices_at};
 
 use dary_heap::{BinaryHeap, DaryHeap};
 use std::alloc::{AllocError, Global};
 use std::{collections, mem};
 
-/// Adds a price. Fails if memory allocation fails, and nothing has changed then. `?` makes `AllocError` of the
+/// Adds a price. Fails if memory allocation fails, which happens only if there is no room for another, and nothing has
+/// changed then. `?` makes `AllocError` of the
 /// error of std's push; that of this heap's is the item, which `map_err` drops.
 pub fn add_price(prices: &mut BinaryHeap<u32>, price: u32) -> Result<(), AllocError>
     ensures bag { OnOk result (IsSameBag (price ∷ prices.old.items) prices.new.items) }
+    ensures succeeds { length prices.old.items < prices.old.capacity → IsOk result }
     ensures unchanged { OnErr result (prices.new ≡ prices.old) }
 {
     prices.push(price).map_err(|_| AllocError)?;
@@ -95,11 +99,14 @@ pub fn cut(prices: &mut BinaryHeap<u32>, limit: u32) -> usize
     before - prices.len()
 }
 
-/// Moves all prices of one heap into another and returns how many there are then. If it fails, neither changes.
+/// Moves all prices of one heap into another and returns how many there are then. Fails if memory allocation fails, which
+/// happens only if the longer heap lacks room for all, and then neither changes.
 pub fn join(prices: &mut BinaryHeap<u32>, others: &mut BinaryHeap<u32>) -> Result<usize, AllocError>
     ensures bag { OnOk result (IsSameBag (prices.old.items ++ others.old.items) prices.new.items) }
     ensures emptied { OnOk result (others.new.items ≡ []) }
     ensures all { IfOk result (λ all. all ≡ length prices.old.items + length others.old.items) }
+    ensures succeeds { length prices.old.items + length others.old.items
+        ≤ receiving_capacity prices.old others.old → IsOk result }
     ensures unchanged { OnErr result (prices.new ≡ prices.old) }
     ensures others_unchanged { OnErr result (others.new ≡ others.old) }
 {
@@ -134,8 +141,8 @@ pub fn take_all<T: Ord, const D: usize>(
     mem::try_take(heap)
 }
 
-/// Adds a price for a place. The heap of a place is made with its first price. Fails if memory allocation
-/// fails. Then each place has the prices that it had.
+/// Adds a price for a place. The heap of a place is made with its first price. Fails if memory allocation fails, but not
+/// if there is room in the heap of the place. Then each place has the prices that it had.
 pub fn add_at(
     places: &mut collections::BTreeMap<u32, BinaryHeap<u32>>,
     place: u32,
@@ -143,6 +150,8 @@ pub fn add_at(
 ) -> Result<(), AllocError>
     ensures added { OnOk result
         (IsSameBag (price ∷ prices_at place places.old) (prices_at place places.new)) }
+    ensures succeeds { (heap : Contents ℕ) → get nat_cmp places.old place ≡ Some heap
+        → length heap.items < heap.capacity → IsOk result }
     ensures unchanged { OnErr result (prices_at place places.new ≡ prices_at place places.old) }
     ensures elsewhere { (other : ℕ) → other ≢ place
         → get nat_cmp places.new other ≡ get nat_cmp places.old other }

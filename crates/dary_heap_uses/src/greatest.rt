@@ -2,7 +2,7 @@
 //!
 //! For a stream a heap of `Reverse` has the least of the items that are kept at its top. A greater item takes
 //! its place by [`push_pop`].
-ghost use Rattle.std.specs.Prelude.{◌≡◌, ◌+◌, ◌*◌, ◌≤◌, [], ◌∷◌, ◌++◌, List, length, min, IfOk, IsOk};
+ghost use Rattle.std.specs.Prelude.{◌≡◌, ◌+◌, ◌*◌, ◌≤◌, ◌⊎◌, [], ◌∷◌, ◌++◌, List, length, min, IfOk, IsOk};
 ghost use Rattle.std.specs.Iterator.{Drains, IsFinite};
 ghost use Rattle.dary_heap.specs.Bounds.{RisesWithin, push_bound, pop_bound};
 ghost use Rattle.dary_heap.specs.Popping.{IsGivenDescending};
@@ -58,7 +58,8 @@ pub fn greatest<T: Ord + Drop, I: IntoIterator<Item = T>, const D: usize>(
 }
 
 /// Returns the `k` greatest items of a heap in descending order, or all if they are fewer. Of equal items
-/// any may be left out. Fails if memory allocation fails, and drops all items then.
+/// any may be left out. Fails if memory allocation fails, and drops all items then. If there are none to return it
+/// doesn't fail.
 ///
 /// # Examples
 ///
@@ -73,9 +74,13 @@ pub fn first_few<T: Ord + Drop, const D: usize>(
     heap: DaryHeap<T, D>,
     k: usize,
 ) -> Result<Vec<T>, AllocError>
-    ensures { IfOk result (λ few. (left : List T)
+    ensures few { IfOk result (λ few. (left : List T)
         × IsGivenDescending T.cmp heap.items few.items left
         × (length few.items ≡ min k (length heap.items))) }
+    ensures succeeds { (k ≡ 0) ⊎ (heap.items ≡ []) → IsOk result }
 {
+    if k == 0 || heap.is_empty() {
+        return Ok(Vec::new(alloc));
+    }
     heap.into_iter_sorted().take(k).collect(alloc)
 }

@@ -128,6 +128,8 @@ impl<J> Scheduler<J> {
         ensures grows { (self.old.room ≤ self.new.room) × (self.old.ids ≤ self.new.ids) }
         ensures kept { length self.old.waiting < self.old.room → self.new.room ≡ self.old.room }
         ensures keyed { id < self.old.ids → self.new.ids ≡ self.old.ids }
+        ensures ids { OnOk result (self.new.ids ≡ max self.old.ids (id + 1)) }
+        ensures same_ids { OnErr result (self.new.ids ≡ self.old.ids) }
         ensures roomy { (at : ℕ) → IsEntry self.old.waiting at id
             → self.new.room ≡ self.old.room }
         ensures succeeds { length self.old.waiting < self.old.room → id < self.old.ids

@@ -121,6 +121,8 @@ impl<const D: usize> TimerQueue<D> {
         ensures grows { (self.old.room ≤ self.new.room) × (self.old.names ≤ self.new.names) }
         ensures kept { length self.old.set < self.old.room → self.new.room ≡ self.old.room }
         ensures keyed { name < self.old.names → self.new.names ≡ self.old.names }
+        ensures names { OnOk result (self.new.names ≡ max self.old.names (name + 1)) }
+        ensures same_names { OnErr result (self.new.names ≡ self.old.names) }
         ensures roomy { (at : ℕ) → IsEntry self.old.set at name
             → self.new.room ≡ self.old.room }
         ensures succeeds { length self.old.set < self.old.room → name < self.old.names

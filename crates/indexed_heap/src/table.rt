@@ -83,6 +83,7 @@ pub(crate) fn widen(places: &mut Vec<usize>, keys: usize) -> Result<(), AllocErr
     ensures longer { vec_len places.old ≤ vec_len places.new }
     ensures same { keys ≤ vec_len places.old → vec_len places.new ≡ vec_len places.old }
     ensures succeeds { keys ≤ vec_len places.old → IsOk result }
+    ensures refused { OnErr result (vec_len places.new ≡ vec_len places.old) }
 {
     if keys <= places.len() {
         return Ok(());

@@ -1,5 +1,5 @@
 //! Calls that give a key an item.
-ghost use Rattle.std.specs.Prelude.{◌≡◌, ℕ, ◌+◌, ◌<◌, ◌≤◌, ◌⊎◌, length, IfOk, IfErr, OnErr, OnOk, IsOk};
+ghost use Rattle.std.specs.Prelude.{◌≡◌, ℕ, ◌+◌, ◌<◌, ◌≤◌, ◌⊎◌, length, max, IfOk, IfErr, OnErr, OnOk, IsOk};
 ghost use Rattle.std.specs.Bool.{OnTrue, OnFalse};
 ghost use Rattle.dary_heap.specs.Bounds.{RisesWithin, push_bound};
 ghost use Rattle.indexed_heap.specs.Entries.{AreSound, Gets, InsertsWithin, IsAbsent, IsEntry, IsReached, Raises, by_item, item_of};
@@ -12,14 +12,14 @@ use dary_heap::sift::Judge;
 impl<T, const D: usize, J: Judge<T>> IndexedHeap<T, D, J> {
     /// Gives a key an item. Returns the item that the key had, or `None` if it had none.
     ///
-    /// No other entry changes. For a key without an item the call takes at most as many comparisons as the new place
+    /// No other entry changes. [`key_capacity`](IndexedHeap::key_capacity) is then `key + 1`, or stays if it was more. For a key without an item the call takes at most as many comparisons as the new place
     /// is deep. Otherwise it takes at most as many as the place of the key's entry is deep, and `D` for each level from
     /// there down to that of the last place. Both are *O*(log *n*) from arity 2 on.
     ///
     /// # Errors
     ///
     /// Returns the item if memory allocation fails, or if the key is `usize::MAX`. The entries are then as they were,
-    /// and there is as much room or more. This happens only if the key has no item, and the length has reached the
+    /// and there is as much room for entries or more. This happens only if the key has no item, and the length has reached the
     /// [`capacity`](IndexedHeap::capacity) or the key [`key_capacity`](IndexedHeap::key_capacity).
     ///
     /// # Examples
@@ -43,6 +43,8 @@ impl<T, const D: usize, J: Judge<T>> IndexedHeap<T, D, J> {
         ensures kept { length self.old.entries < self.old.capacity
             → self.new.capacity ≡ self.old.capacity }
         ensures keyed { key < self.old.keys → self.new.keys ≡ self.old.keys }
+        ensures widened { OnOk result (self.new.keys ≡ max self.old.keys (key + 1)) }
+        ensures same_keys { OnErr result (self.new.keys ≡ self.old.keys) }
 
         // It can't fail if there is room, or the key has an item.
         ensures succeeds { length self.old.entries < self.old.capacity → key < self.old.keys
@@ -104,6 +106,8 @@ impl<T, const D: usize, J: Judge<T>> IndexedHeap<T, D, J> {
         ensures kept { length self.old.entries < self.old.capacity
             → self.new.capacity ≡ self.old.capacity }
         ensures keyed { key < self.old.keys → self.new.keys ≡ self.old.keys }
+        ensures widened { OnOk result (self.new.keys ≡ max self.old.keys (key + 1)) }
+        ensures same_keys { OnErr result (self.new.keys ≡ self.old.keys) }
 
         // It can't fail if there is room, or the key has an item.
         ensures succeeds { length self.old.entries < self.old.capacity → key < self.old.keys

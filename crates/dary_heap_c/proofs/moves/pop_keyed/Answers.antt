@@ -1,8 +1,8 @@
-use Rattle.dary_heap.proofs.Common.{◌<◌, eqb-false, length, sym, ◌∙◌, arith, IsPermutation-refl}
+use Rattle.dary_heap.proofs.Common.{inl, inr, refl, sym, ◌∙◌, arith, IsPermutation-refl}
 use Rattle.dary_heap.proofs.Order.{below_root}
 use Rattle.dary_heap.proofs.sift.Parts.{replaced}
 use Rattle.dary_heap.proofs.sift.Sorting.{but_last_is}
-use Rattle.dary_heap_c.proofs.Placing.{bag_behind, comes_last, none_there, one_less, others_stay, removed, went_down}
+use Rattle.dary_heap_c.proofs.Placing.{bag_behind, comes_last, gives_place, none_there, one_less, others_stay, removed, went_down}
 use Rattle.dary_heap_c.proofs.moves.pop_keyed.Goals as goal
 
 pub returns-then-end-ne0-clause-bag : goal.returns-then-end-ne0-clause-bag
@@ -34,7 +34,18 @@ returns-then-end-ne0-clause-rights g c =
 pub returns-else-end-ne0-clause-rights : goal.returns-else-end-ne0-clause-rights
 returns-else-end-ne0-clause-rights g c =
     let xs = c.args.entries.now in let rest = c.in-Some.rest.now in let last = c.in-Some.popped.now in
-    let some : 0 < length xs = omega (arith, eqb-false (length xs) 0 (sym c.is_empty.ensures ∙ c.if-is_empty.false)) in
     let is = sym c.swap.ensures.after ∙ c.in-Some.ensures.cases.0 in
-    let less = one_less xs rest last 0 some is in
-    rw c.note.ensures (removed xs rest last 0 some is rest (IsPermutation-refl rest) c.args.places.now _ (none_there 0 rest _ (omega (arith, less, c.if-end-ne0.false))))
+    let less = one_less xs rest last 0 c.requires is in
+    rw c.note.ensures (removed xs rest last 0 c.requires is rest (IsPermutation-refl rest) c.args.places.now _ (none_there 0 rest _ (omega (arith, less, c.if-end-ne0.false))))
+
+pub returns-then-end-ne0-clause-path : goal.returns-then-end-ne0-clause-path
+returns-then-end-ne0-clause-path g c =
+    let sifted = c.sift_to_bottom_with-stop in
+    let is = sym c.swap.ensures.after ∙ c.in-Some.ensures.cases.0 in
+    (sifted.result, gives_place c.args.entries.now c.in-Some.rest.now c.in-Some.popped.now 0 (omega arith) is sifted.new.items sifted.ensures.bag g.row.D sifted.result (inr sifted.ensures.path))
+
+pub returns-else-end-ne0-clause-path : goal.returns-else-end-ne0-clause-path
+returns-else-end-ne0-clause-path g c =
+    let rest = c.in-Some.rest.now in
+    let is = sym c.swap.ensures.after ∙ c.in-Some.ensures.cases.0 in
+    (0, gives_place c.args.entries.now rest c.in-Some.popped.now 0 c.requires is rest (IsPermutation-refl rest) g.row.D 0 (inl record { levels = 0; way = (refl, refl) }))

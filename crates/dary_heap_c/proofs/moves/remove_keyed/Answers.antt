@@ -1,7 +1,7 @@
-use Rattle.dary_heap.proofs.Common.{sym, ◌∙◌, arith, IsPermutation-refl}
+use Rattle.dary_heap.proofs.Common.{inl, refl, sym, ◌∙◌, arith, IsPermutation-refl}
 use Rattle.dary_heap.proofs.sift.Parts.{still_but_at}
 use Rattle.dary_heap.proofs.sift.Sorting.{but_last_is}
-use Rattle.dary_heap_c.proofs.Placing.{bag_behind, behind_ordered, comes_last, none_there, one_less, others_stay, removed}
+use Rattle.dary_heap_c.proofs.Placing.{bag_behind, behind_ordered, comes_last, gives_place, none_there, one_less, others_stay, removed}
 use Rattle.dary_heap_c.proofs.moves.remove_keyed.Goals as goal
 
 pub returns-then-place-end-clause-bag : goal.returns-then-place-end-clause-bag
@@ -45,3 +45,16 @@ returns-else-place-end-clause-rights g c =
     let is = sym c.swap.ensures.after ∙ c.in-Some.ensures.cases.0 in
     let less = one_less xs rest last place c.requires is in
     rw c.note.ensures (removed xs rest last place c.requires is rest (IsPermutation-refl rest) c.args.places.now _ (none_there place rest _ (omega (arith, less, c.if-place-end.false))))
+
+pub returns-then-place-end-clause-path : goal.returns-then-place-end-clause-path
+returns-then-place-end-clause-path g c =
+    let is = sym c.swap.ensures.after ∙ c.in-Some.ensures.cases.0 in
+    let fixed = c.fix_keyed.ensures in
+    let way = fixed.path in
+    (way.0, gives_place c.args.entries.now c.in-Some.rest.now c.in-Some.removed.now c.args.place c.requires is c.fix_keyed.new.entries fixed.bag g.row.D way.0 way.1)
+
+pub returns-else-place-end-clause-path : goal.returns-else-place-end-clause-path
+returns-else-place-end-clause-path g c =
+    let rest = c.in-Some.rest.now in let place = c.args.place in
+    let is = sym c.swap.ensures.after ∙ c.in-Some.ensures.cases.0 in
+    (place, gives_place c.args.entries.now rest c.in-Some.removed.now place c.requires is rest (IsPermutation-refl rest) g.row.D place (inl record { levels = 0; way = (refl, refl) }))

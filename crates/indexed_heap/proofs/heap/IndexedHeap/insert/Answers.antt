@@ -1,7 +1,7 @@
-use Rattle.dary_heap.proofs.Common.{Some, sym}
+use Rattle.dary_heap.proofs.Common.{Some, arith, sym}
 use Rattle.indexed_heap.proofs.AsMap.{Gets-given, item_of-absent}
 use Rattle.indexed_heap.proofs.Changing.{inserts_held, inserts_new, no_entry, no_room, on_err}
-use Rattle.indexed_heap.proofs.Placing.{distinct}
+use Rattle.indexed_heap.proofs.Placing.{distinct, has_place}
 use Rattle.indexed_heap.proofs.Sound.{sound}
 use Rattle.indexed_heap.proofs.heap.IndexedHeap.insert.Goals as goal
 
@@ -62,3 +62,10 @@ returns-clause-counted g c =
 
 pub returns-clause-sound : goal.returns-clause-sound
 returns-clause-sound g c = sound g.row.D c.change.new.entries.items c.change.new.places c.change.ensures.ordered c.change.ensures.right
+
+pub returns-clause-widened : goal.returns-clause-widened
+returns-clause-widened g c =
+    let found = rw c.as_slice.ensures.items at c.in-Some.ensures.found in
+    let places = c.self.inside.places in
+    let inside = has_place c.self.invariant c.in-Some.at found.entry found.there in
+    rw (← c.self.view_is) (omega (arith, inside, found.has, places.ok.0))

@@ -1,6 +1,7 @@
 use Rattle.dary_heap.proofs.Common.{◌<◌, length, arith, slice_get_within}
 use Rattle.dary_heap.proofs.Depth.{depth-later}
 use Rattle.indexed_heap.proofs.Changing.{no_entry, no_room, on_err}
+use Rattle.indexed_heap.proofs.Placing.{has_place}
 use Rattle.indexed_heap.proofs.Sound.{sound}
 use Rattle.indexed_heap.proofs.heap.IndexedHeap.raise.Goals as goal
 
@@ -48,3 +49,10 @@ returns-clause-kept g c = rw (← c.self.view_is) c.add.ensures.made.kept
 
 pub returns-clause-roomy : goal.returns-clause-roomy
 returns-clause-roomy g c = rw (← c.self.view_is) (no_entry (rw c.as_slice.ensures.items at c.in_default.ensures.none))
+
+pub returns-in-Some-clause-widened : goal.returns-in-Some-clause-widened
+returns-in-Some-clause-widened g c =
+    let found = rw c.as_slice.ensures.items at c.in-Some.ensures.found in
+    let places = c.self.inside.places in
+    let inside = has_place c.self.invariant c.in-Some.at found.entry found.there in
+    rw (← c.self.view_is) (omega (arith, inside, found.has, places.ok.0))
