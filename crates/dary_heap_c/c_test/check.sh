@@ -32,7 +32,9 @@ if ! command -v "${cpp[0]-}" > /dev/null; then
     say 'there is no C++ compiler c++, so the programs in C++ are left out'
     has_cpp=false
 fi
-command -v nm > /dev/null || fail 'there is no nm'
+for it in nm size; do
+    command -v "$it" > /dev/null || fail "there is no $it"
+done
 
 room=$(mktemp -d)
 trap 'rm -rf -- "$room"' EXIT
@@ -120,6 +122,16 @@ show_all() {
     done
     ! printf '5 x\n' | "$room/greatest" > "$room/printed" 2>&1 || fail 'greatest.c takes a word for a number'
 }
+
+# The sizes that README.md names are these, but for a tenth, since compilers differ.
+compile sized ../examples/timers.c -Wl,--gc-sections
+named='s/.* has ([0-9.]+) MB, ([0-9.]+) MB of it code, .*: ([0-9]+) kB for `timers`.*/\1e6 \2e6 \3e3/p'
+read -ra figures <<< "$(sed -nE "$named" ../README.md)"
+sizes=("$(wc -c < "$library")" "$(size -t "$library" | awk 'END { print $1 }')" "$(size "$room/sized" | awk 'END { print $1 }')")
+for i in 0 1 2; do
+    awk -v a="${figures[i]-0}" -v b="${sizes[i]}" 'BEGIN { exit !(a <= 1.1 * b && b <= 1.1 * a) }' ||
+        fail "README.md has the size ${figures[i]-}, and it is ${sizes[i]}"
+done
 
 awk '/^```c$/ { on = 1; next } /^```$/ { on = 0 } on' ../README.md > "$room/readme.c"
 show_all
