@@ -98,8 +98,8 @@ impl<J> Scheduler<J> {
     }
 
     /// Reserves room for at least `additional` more jobs, and for the ids below `ids` and no others. After `Ok` that many
-    /// can be submitted without an error. If there is room already, it does nothing. Fails if memory allocation fails, which happens
-    /// only if some of that room was missing. The jobs stay as they are.
+    /// can be submitted without an error. If there is room already, it does nothing. Fails if memory allocation fails,
+    /// which happens only if some of that room was missing. The jobs stay as they are.
     pub fn reserve(&mut self, additional: usize, ids: usize) -> Result<(), AllocError>
         ensures waiting { self.new.waiting ≡ self.old.waiting }
         ensures came { self.new.came ≡ self.old.came }

@@ -91,8 +91,8 @@ impl<const D: usize> TimerQueue<D> {
     }
 
     /// Reserves room for at least `additional` more timers, and for the names below `names` and no others. After `Ok`
-    /// that many can be set without an error. If there is room already, it does nothing. Fails if memory allocation fails, which
-    /// happens only if some of that room was missing. The timers stay as they are.
+    /// that many can be set without an error. If there is room already, it does nothing. Fails if memory allocation
+    /// fails, which happens only if some of that room was missing. The timers stay as they are.
     pub fn reserve(&mut self, additional: usize, names: usize) -> Result<(), AllocError>
         ensures set { self.new.set ≡ self.old.set }
         ensures uncounted { self.new.comparisons ≡ self.old.comparisons }

@@ -12,15 +12,17 @@ use dary_heap::sift::Judge;
 impl<T, const D: usize, J: Judge<T>> IndexedHeap<T, D, J> {
     /// Gives a key an item. Returns the item that the key had, or `None` if it had none.
     ///
-    /// No other entry changes. [`key_capacity`](IndexedHeap::key_capacity) is then `key + 1`, or stays if it was more. For a key without an item the call takes at most as many comparisons as the new place
-    /// is deep. Otherwise it takes at most as many as the place of the key's entry is deep, and `D` for each level from
-    /// there down to that of the last place. Both are *O*(log *n*) from arity 2 on.
+    /// No other entry changes. [`key_capacity`](IndexedHeap::key_capacity) is then `key + 1`, or stays if it was more.
+    ///
+    /// For a key without an item the call takes at most as many comparisons as the new place is deep. Otherwise it takes
+    /// at most as many as the place of the key's entry is deep, and `D` for each level from there down to that of the
+    /// last place. Both are *O*(log *n*) from arity 2 on.
     ///
     /// # Errors
     ///
-    /// Returns the item if memory allocation fails, or if the key is `usize::MAX`. The entries are then as they were,
-    /// and there is as much room for entries or more. This happens only if the key has no item, and the length has reached the
-    /// [`capacity`](IndexedHeap::capacity) or the key [`key_capacity`](IndexedHeap::key_capacity).
+    /// Returns the item if memory allocation fails, or if the key is `usize::MAX`. The entries are then as they were, as
+    /// is `key_capacity`, and there is as much room for entries or more. This happens only if the key has no item, and the
+    /// length has reached the [`capacity`](IndexedHeap::capacity) or the key `key_capacity`.
     ///
     /// # Examples
     ///
