@@ -1,7 +1,7 @@
 -- A run goes on by one command. What it asks of the caller, and the items that it brings in, are among those of all commands.
 use Rattle.dary_heap.proofs.Common.{◌≡◌, ℕ, ◌+◌, ◌≤◌, Bool, List, [], ◌∷◌, ◌++◌, length, refl, ap, arith, Ordering, charge, Contents, Command, Reply, Step, Steps, last_state, IsState, IsServed}
-use Rattle.dary_heap.proofs.Common.{Runs, Serves, room, sure_after, All, Contains, sym, subst, append_assoc, All-contains, All-contains_itself, All-weaker, Contains-append_left}
-use Rattle.dary_heap.proofs.Common.{Contains-append_right, Mut, Bor, IsCallableOn, MayCall, items_in, zero-le}
+use Rattle.dary_heap.proofs.Common.{Runs, Serves, room, sure_after, All, Contains, sym, subst, append_assoc, All-contains, Contains-append_left}
+use Rattle.dary_heap.proofs.Common.{Contains-append_right, Mut, Bor, MayCall, items_in, zero-le}
 use Rattle.dary_heap.specs.Bounds.{charges}
 use Rattle.dary_heap.specs.Run.{PushesServed, sure_at_end}
 use Rattle.dary_heap.specs.Machine as machine

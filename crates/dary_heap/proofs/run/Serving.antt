@@ -4,7 +4,7 @@ use Rattle.dary_heap.proofs.{false, IsTotalOrder, Mut, Called, CalledAt, TakesAt
 use Rattle.dary_heap.proofs.{RisesWithin, pop_bound, charge, Contents, IsHeapOrdered, Command, Reply, Pop, Ask, Popped, Asked, Step, IsServed, Serves, room, sure_after, front, suc, ◌-◌, if◌then◌else◌}
 use Rattle.dary_heap.proofs.{min, ap, ◌∙◌, length-append, append-nil, mul-le-mul_right, Contains-append_right, IsPermutation-sym, Contains-permutation, Bor, items_where_true, IsSameBag, IsGreatest}
 use Rattle.dary_heap.proofs.{mend_bound, IsExtended, first_no, depth, PopIf, Retain, Extend, Append, Done, IsJoined, nat_tests, ◌≢◌, le_refl, zero-le, true≢false, IsSameState, IsAmong, IsAmong-same}
-use Rattle.dary_heap.proofs.{IsAmong-tail, front_cases, holds_none, IsAmong-append, alone, ordered_state, same_state, none_ordered, read}
+use Rattle.dary_heap.proofs.{IsAmong-tail, front_cases, holds_none, IsAmong-append, ordered_state, same_state, none_ordered, read}
 use Rattle.dary_heap.proofs.Popping.{none_first}
 use Rattle.std.proofs.lemmas.Grind.{get_or_picked}
 use Rattle.dary_heap.specs.Filtering.{IsRetained}
