@@ -12,6 +12,10 @@ pub record AreDistinct (items : List Entry) : Type 0 where
 pub record IsKeyAt (limit place : ℕ) (items : List Entry) : Type 0 where
   pub below : (item : Entry) → slice_get items place ≡ Some item → item.value < limit
 
+-- there is an item at the place, and its value is below the limit
+abbrev pub HasKeyAt : ℕ → ℕ → List Entry → Type 0
+HasKeyAt limit place items = (place < length items) × IsKeyAt limit place items
+
 -- no two items have the same value, and each value is below the limit
 pub record HaveKeys (limit : ℕ) (items : List Entry) : Type 0 where
   pub below : (i : ℕ) (item : Entry) → slice_get items i ≡ Some item → item.value < limit

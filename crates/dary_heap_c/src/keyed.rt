@@ -2,11 +2,11 @@
 //!
 //! Each promises of the entries what the function of [`entry`](crate::entry) promises that has the same name but for
 //! its end. A push and a fix also return `false` and change nothing if the value of the entry has no place.
-ghost use Rattle.std.specs.Prelude.{◌-◌, ◌<◌, length};
+ghost use Rattle.std.specs.Prelude.{◌-◌, length};
 ghost use Rattle.std.specs.Ordering.{flip_args};
 ghost use Rattle.dary_heap_c.specs.InPlace.{FixesIf, Pops, PushesIf, Removes};
 ghost use Rattle.dary_heap_c.specs.Keys.{by_key};
-ghost use Rattle.dary_heap_c.specs.Places.{IsKeyAt, KeepsPlaces};
+ghost use Rattle.dary_heap_c.specs.Places.{HasKeyAt, KeepsPlaces};
 
 use crate::entry::Entry;
 use crate::in_place::{fix_with_places, pop_with_places, push_with_places, remove_with_places};
@@ -19,8 +19,8 @@ pub extern "C" fn dheap_max_push_keyed(
     arity: usize,
     places: &mut [usize],
 ) -> bool
-    ensures pushes { PushesIf by_key arity result items.old items.new ((0 < length items.old)
-        × IsKeyAt (length places.old) (length items.old - 1) items.old) }
+    ensures pushes { PushesIf by_key arity result items.old items.new
+        (HasKeyAt (length places.old) (length items.old - 1) items.old) }
     ensures places { KeepsPlaces (length items.old - 1) result items.old items.new places.old
         places.new }
 {
@@ -47,7 +47,7 @@ pub extern "C" fn dheap_max_fix_keyed(
     places: &mut [usize],
 ) -> bool
     ensures fixes { FixesIf by_key arity result items.old items.new
-        ((place < length items.old) × IsKeyAt (length places.old) place items.old) place }
+        (HasKeyAt (length places.old) place items.old) place }
     ensures places { KeepsPlaces place result items.old items.new places.old places.new }
 {
     fix_with_places(items, arity, place, places, &mut ByKey::new())
@@ -74,8 +74,8 @@ pub extern "C" fn dheap_min_push_keyed(
     arity: usize,
     places: &mut [usize],
 ) -> bool
-    ensures pushes { PushesIf (flip_args by_key) arity result items.old items.new ((0 < length items.old)
-        × IsKeyAt (length places.old) (length items.old - 1) items.old) }
+    ensures pushes { PushesIf (flip_args by_key) arity result items.old items.new
+        (HasKeyAt (length places.old) (length items.old - 1) items.old) }
     ensures places { KeepsPlaces (length items.old - 1) result items.old items.new places.old
         places.new }
 {
@@ -102,7 +102,7 @@ pub extern "C" fn dheap_min_fix_keyed(
     places: &mut [usize],
 ) -> bool
     ensures fixes { FixesIf (flip_args by_key) arity result items.old items.new
-        ((place < length items.old) × IsKeyAt (length places.old) place items.old) place }
+        (HasKeyAt (length places.old) place items.old) place }
     ensures places { KeepsPlaces place result items.old items.new places.old places.new }
 {
     fix_with_places(items, arity, place, places, &mut LeastFirst(ByKey::new()))

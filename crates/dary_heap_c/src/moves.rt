@@ -9,15 +9,14 @@ ghost use Rattle.dary_heap.specs.Bounds.{RisesWithin, fix_bound, pop_bound, push
 ghost use Rattle.dary_heap.specs.HeapOrder.{IsHeapOrdered, IsHeapOrderedButAt};
 ghost use Rattle.dary_heap.specs.Ends.{GivesPlace};
 ghost use Rattle.dary_heap.specs.Path.{GoesTo, GoesUp};
-ghost use Rattle.dary_heap_c.specs.Places.{AreRight, AreRightOffPath, HaveKeys, IsFree, IsKeyAt, Rights};
+ghost use Rattle.dary_heap_c.specs.Places.{AreRight, AreRightOffPath, HasKeyAt, HaveKeys, IsFree, Rights};
 
 use crate::entry::Entry;
 use dary_heap::sift::{Judge, fix_with, parent, sift_to_bottom_with, sift_up_with};
 
 /// Returns `true` if there is an entry at the place, and its value has a place.
 pub fn has_key_at(entries: &[Entry], place: usize, places: &[usize]) -> bool
-    ensures { IsTrue result ↔ (place < length entries.now)
-        × IsKeyAt (length places.now) place entries.now }
+    ensures { IsTrue result ↔ HasKeyAt (length places.now) place entries.now }
 {
     place < entries.len() && (entries[place].value as usize) < places.len()
 }
