@@ -24,7 +24,6 @@ use Rattle.dary_heap.specs.Extending.{IsRefusedAfter}
 pub use Rattle.dary_heap.proofs.Bags.{IsGreatest-stays, IsGreatest-overtaken, front_cases, Contains-cases, Contains-first, Contains-later, holds_none, has_none, came_first, came_later, came_cases}
 pub use Rattle.dary_heap.proofs.Bags.{upper_bound, upper_bound_left}
 pub use Rattle.dary_heap.proofs.Order.{not_greater-self, not_greater-trans}
-pub use Rattle.dary_heap.proofs.Callable.{takes_in_turn, all_callable}
 pub use Rattle.dary_heap.proofs.Cancelling.{IsPermutation-uncons}
 use Rattle.dary_heap.proofs.Depth.{parent-below}
 use Rattle.dary_heap.proofs.sift.Parts.{still_but_at}

@@ -4,7 +4,7 @@
 //! `specs/Machine.antt`, which says what a priority queue may reply, and knows no tree and no
 //! memory. Its state is a bag of items, which is a multiset, and their *front*, an item that no
 //! other exceeds: a question is about the front, and a pop returns it.
-ghost use Rattle.std.specs.Prelude.{◌≡◌, ◌++◌, ◌∷◌, [], length, slice_get, All, Bool, Some, None, IfOk, IfErr, IsOk};
+ghost use Rattle.std.specs.Prelude.{◌≡◌, ◌⊎◌, ◌++◌, ◌∷◌, [], length, slice_get, All, Bool, Some, None, IfOk, IfErr, IsOk};
 ghost use Rattle.std.specs.Fn.{CalledAt, FnOnceTakesAt, FnOnceReturnsAt};
 ghost use Rattle.dary_heap.specs.Asking.{MayCall, items_in};
 ghost use Rattle.dary_heap.specs.HeapOrder.{IsHeapOrdered};
@@ -118,9 +118,9 @@ pub enum Reply<T: Ord, const D: usize> {
 ///
 /// # Preconditions
 ///
-/// - The predicate of a [`Command::Ask`] or a [`Command::PopIf`] may be called once, on any item that the heap or
-///   the commands hold, and that of a [`Command::Retain`] on each of them, in any order. `run` calls the former no
-///   second time.
+/// - Any predicate of the type `P` may be called on anything, and again after each call. Or else that of a
+///   [`Command::Ask`] or a [`Command::PopIf`] may be called once, on any item that the heap or the commands hold, and
+///   that of a [`Command::Retain`] on each of them, in any order. `run` calls the former no second time.
 ///
 /// # Errors
 ///
@@ -161,7 +161,8 @@ pub fn run<T: Ord + Drop, const D: usize, P: FnMut(&T) -> bool>(
     heap: &mut DaryHeap<T, D>,
     commands: Vec<Command<T, D, P>>,
 ) -> Result<Vec<Reply<T, D>>, Vec<Command<T, D, P>>>
-    requires { All (MayCall P.FnMut (heap.old.items ++ items_in (read.commands commands.items)))
+    requires { ((predicate : P) → P.IsAlwaysCallable predicate)
+        ⊎ All (MayCall P.FnMut (heap.old.items ++ items_in (read.commands commands.items)))
         (read.commands commands.items) }
 
     // The replies and the items are a run of the bag machine, within its charges.

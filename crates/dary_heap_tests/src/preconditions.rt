@@ -80,7 +80,6 @@ fn a_pop_comes_if_the_predicate_returns_true(rt: HostRuntime) -> Tested {
 
 // A predicate that changes at each call, and may be called on any item after any calls.
 #[test]
-#[tactic(auto, using(dary_heap::proofs::Callable::takes_in_turn))]
 fn a_predicate_is_asked_about_each_item_in_order(rt: HostRuntime) -> Tested {
     let mut heap = OctonaryHeap::from([-10, -5, 1, 2, 4, 13].to_vec(rt.alloc())?);
     assert_eq!(rt; heap.as_slice(), [13, -5, 1, 2, 4, -10].as_slice());
@@ -142,7 +141,6 @@ fn a_tail_is_taken_into_the_heap_order(rt: HostRuntime) -> Tested {
 
 // Each predicate may be called on any item.
 #[test]
-#[tactic(auto, using(dary_heap::proofs::Callable::all_callable))]
 fn a_run_gives_a_reply_to_each_command(rt: HostRuntime) -> Tested {
     let mut heap = TernaryHeap::<i32>::new(rt.alloc());
     let at_least_5 = |item: &i32| *item >= 5;

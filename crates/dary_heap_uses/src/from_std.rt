@@ -89,7 +89,6 @@ pub fn add_all(prices: &mut BinaryHeap<u32>, more: Vec<u32>) -> Result<(), Alloc
 }
 
 /// Takes the prices above a limit out, and returns how many they were.
-#[tactic(auto, using(dary_heap::proofs::Callable::takes_in_turn))]
 pub fn cut(prices: &mut BinaryHeap<u32>, limit: u32) -> usize
     ensures left { IsSameBag (up_to limit prices.old.items) prices.new.items }
     ensures cut { result ≡ count_by (λ price. nat_lt limit price) prices.old.items }

@@ -1,5 +1,5 @@
 //! Items that leave a heap by a predicate, or all at once.
-ghost use Rattle.std.specs.Prelude.{◌≡◌, ◌≤◌, [], ◌∷◌, length, slice_get, vec_capacity, Some, List, Bool, IfSome, IfNone, if◌then◌else◌, None};
+ghost use Rattle.std.specs.Prelude.{◌≡◌, ◌≤◌, ◌⊎◌, [], ◌∷◌, length, slice_get, vec_capacity, Some, List, Bool, IfSome, IfNone, if◌then◌else◌, None};
 ghost use Rattle.std.specs.Fn.{CalledAt, FnOnceTakesAt, FnOnceReturnsAt};
 ghost use Rattle.std.specs.List.{items_where_true};
 ghost use Rattle.std.specs.List.Retain.{ReturnsInTurn};
@@ -66,7 +66,7 @@ impl<T, const D: usize, J: Judge<T>> DaryHeap<T, D, J> {
     ///
     /// # Preconditions
     ///
-    /// - `f` may be called on the items in that order.
+    /// - `f` may be called on anything and again after each call, or else on the items in that order.
     ///
     /// # Examples
     ///
@@ -79,7 +79,7 @@ impl<T, const D: usize, J: Judge<T>> DaryHeap<T, D, J> {
     pub fn retain<F: FnMut(&T) -> bool>(&mut self, f: F)
     where
         T: Drop,
-        requires { TakesInTurn F.FnMut f self.old.items }
+        requires { F.IsAlwaysCallable f ⊎ TakesInTurn F.FnMut f self.old.items }
         ensures retained { IsRetained (CalledAt F.FnMut) D f self.old self.new }
         ensures len { length self.new.items ≤ length self.old.items }
         ensures ordered { IsHeapOrdered J.order D self.new.items }

@@ -1,5 +1,6 @@
 use Rattle.dary_heap.proofs.{◌≡◌, [], ◌∷◌, ◌++◌, length, map, All, Contains, sym, ap, ◌∙◌, subst, arith, inl, inr, append_assoc, append-nil, length-append, map-append, nil_from_length}
 use Rattle.dary_heap.proofs.{Contains-append_left, Contains-append_right, Contains-append_cases, into_iter_items, MayCall, items_in, ordered_state}
+use Rattle.dary_heap.proofs.Callable.{all_callable}
 use Rattle.dary_heap.specs.Reading as read
 use Rattle.dary_heap.proofs.run.Runs.{callable_one, items_of_one, Runs-begins, Runs-more}
 use Rattle.dary_heap.proofs.run.run.Goals as goal
@@ -19,6 +20,10 @@ pub serve-requires : goal.serve-requires
 serve-requires g c =
     let steps = c.in-Some.ensures.steps in
     let all = c.args.commands.items in
+    let may : All (MayCall g.P.FnMut (c.args.heap.now.items ++ items_in (read.commands all))) (read.commands all) = elim c.requires [
+      | inl always ↦ all_callable g.P.FnMut _ _ always
+      | inr each ↦ each
+    ] in
     let is : all ≡ c.loop-command.yielded ++ (c.in-Some.command ∷ into_iter_items c.next.new.self) = c.loop-command.invariant.split ∙ ap (λ xs. c.loop-command.yielded ++ xs) steps.0 in
     let seen = ap (map read.command) is ∙ map-append read.command c.loop-command.yielded (c.in-Some.command ∷ into_iter_items c.next.new.self) in (
       assumption,
@@ -28,7 +33,7 @@ serve-requires g c =
           assumption,
           callable_one g.P.FnMut (c.args.heap.now.items ++ items_in (read.commands all)) c.loop-command.heap.items (read.commands c.loop-command.yielded)
               (read.command c.in-Some.command) (read.commands (into_iter_items c.next.new.self)) c.loop-command.invariant.among
-              (subst (λ cs. All (MayCall g.P.FnMut (c.args.heap.now.items ++ items_in (read.commands all))) cs) seen c.requires),
+              (subst (λ cs. All (MayCall g.P.FnMut (c.args.heap.now.items ++ items_in (read.commands all))) cs) seen may),
         ),
       ),
     )

@@ -1,4 +1,4 @@
-use Rattle.dary_heap.proofs.{ap, arith, le_refl, refl, zero-le, same_state}
+use Rattle.dary_heap.proofs.{ap, arith, inr, le_refl, refl, zero-le, same_state}
 use Rattle.dary_heap.specs.Reading as read
 use Rattle.dary_heap.proofs.run.Serving.{asks, callable_on_front, pops_where, retained, serves_emptied, serves_same}
 use Rattle.dary_heap.proofs.run.serve.Goals as goal
@@ -14,7 +14,7 @@ ask-requires g c =
 pub retain-requires : goal.retain-requires
 retain-requires g c =
     let callable = c.requires.retain c.in-Retain.predicate (ap read.command c.in-Retain.is) in
-    (assumption, callable.in_turn c.args.heap.now.items (λ x in'. in'))
+    (assumption, inr (callable.in_turn c.args.heap.now.items (λ x in'. in')))
 
 pub returns-in-PopIf : goal.returns-in-PopIf
 returns-in-PopIf g c =

@@ -1,13 +1,8 @@
-use Rattle.dheap.proofs.Common.{of_calls, lit<, rules, ap, subst, tests, MayPrint, Say, lines_of}
-use Rattle.dary_heap.proofs.Callable.{all_callable}
+use Rattle.dheap.proofs.Common.{rules, ap, subst, tests, MayPrint, Say, lines_of}
 use Rattle.dary_heap.specs.Reading as read
 use Rattle.dheap.proofs.Bounds.{may_print_by}
 use Rattle.dheap.proofs.Written.{printed_by}
 use Rattle.dheap.proofs.serve.run_script.Goals as goal
-
--- each predicate may be called on any number
-pub run-requires : goal.run-requires
-run-requires g c = (lit< tt, (lit< tt, (lit< tt, all_callable _ _ _ (search of_calls))))
 
 pub returns-clause-printed : goal.returns-clause-printed
 returns-clause-printed g c =

@@ -1,7 +1,11 @@
-use Rattle.dary_heap.proofs.Common.{◌≡◌, ◌-◌, ◌≤◌, length, take, sym, ap, ◌∙◌, subst, arith, items_where_true, RisesWithin, mend_bound, first_no, IsHeapOrdered}
+use Rattle.dary_heap.proofs.Callable.{takes_in_turn}
+use Rattle.dary_heap.proofs.Common.{◌≡◌, inl, inr, ◌-◌, ◌≤◌, length, take, sym, ap, ◌∙◌, subst, arith, items_where_true, RisesWithin, mend_bound, first_no, IsHeapOrdered}
 use Rattle.dary_heap.proofs.heap.Filtering.{picked-all, picked-front, many_picked, few_picked, first_no-within}
 use Rattle.dary_heap.proofs.sift.{front-ordered, written_back, same_contents}
 use Rattle.dary_heap.proofs.heap.DaryHeap.retain.Goals as goal
+
+pub keep-start-requires : goal.keep-start-requires
+keep-start-requires g c = elim c.requires [ inl always ↦ takes_in_turn g.F.FnMut c.args.f _ always | inr in_turn ↦ rw (← c.self.view_is) at in_turn ]
 
 pub mend_with-requires : goal.mend_with-requires
 mend_with-requires g c =
