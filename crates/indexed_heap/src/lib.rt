@@ -20,6 +20,39 @@
 //! Each example of these pages is run as a test: `rt` is the test's `HostRuntime`, `alloc` is `rt.alloc()`, and `?`
 //! takes any error.
 //!
+//! # Keys
+//!
+//! Keys are small numbers of your own. If you have none, take handles: those that a slab picks, here the kit's.
+//!
+//! ```
+//! use indexed_heap::IndexedHeap;
+//! use slab::Slab;
+//! let (mut jobs, mut queue) = (Slab::new(alloc), IndexedHeap::<u8, 4>::new(alloc));
+//! for (job, priority) in [("wash", 1), ("cook", 5)] {
+//!     queue.insert(jobs.insert(job)?, priority)?;
+//! }
+//! let next = queue.pop().and_then(|(handle, _)| jobs.try_remove(handle));
+//! assert_eq!(rt; next, Some("cook"));
+//! ```
+//!
+//! If you have names, a map has the number of each, in the order in which they came:
+//!
+//! ```
+//! use indexed_heap::IndexedHeap;
+//! use std::collections::BTreeMap;
+//! let (mut names, mut numbers) = (Vec::new(alloc), BTreeMap::new(alloc));
+//! let mut queue = IndexedHeap::<u8, 4>::new(alloc);
+//! for (name, priority) in [("ann", 1), ("bob", 5), ("ann", 7)] {
+//!     let number = *numbers.entry(name)?.or_insert(names.len());
+//!     if number == names.len() {
+//!         names.push(name)?;
+//!     }
+//!     queue.insert(number, priority)?;
+//! }
+//! assert_eq!(rt; queue.pop().map(|(number, _)| names[number]), Some("ann"));
+//! assert_eq!(rt; queue.len(), 1);
+//! ```
+//!
 //! # Costs
 //!
 //! The greatest number of comparisons, for `n` entries at an arity `D` of 2 or more. The contracts have the exact
