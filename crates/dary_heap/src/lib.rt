@@ -14,6 +14,17 @@
 //! assert_eq!(rt; heap.len(), 1);
 //! ```
 //!
+//! For the least item first take a judge that compares the other way round, or items in `Reverse`:
+//!
+//! ```
+//! use dary_heap::DaryHeap;
+//! use dary_heap::sift::{ByOrd, LeastFirst};
+//! let mut heap = DaryHeap::<_, 4, _>::with_judge(alloc, LeastFirst(ByOrd::new()));
+//! heap.push(5)?;
+//! heap.push(1)?;
+//! assert_eq!(rt; heap.pop(), Some(1));
+//! ```
+//!
 //! Each example of these pages is run as a test: `rt` is the test's `HostRuntime`, `alloc` is `rt.alloc()`, and `?`
 //! takes any error. In a function that fails with `AllocError` write `heap.push(1).map_err(|_| AllocError)?`.
 //!
