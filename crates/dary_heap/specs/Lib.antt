@@ -9,6 +9,7 @@ pub mod DrainSorted
 pub mod Extending
 pub mod Filtering
 pub mod HeapOrder
+pub mod IterSorted
 pub mod LoanWrites
 pub mod Loan
 pub mod Machine
@@ -25,5 +26,6 @@ pub mod TwoArities
 pub mod Walk
 -- for private functions alone, by the module that they stand in
 pub mod hole
+pub mod iter
 pub mod shortest_path
 pub mod sift
