@@ -1,4 +1,4 @@
-use Rattle.dary_heap_uses.proofs.{List, length, map, vec_capacity, vec_len, ◌+◌, ◌≡◌, ◌≤◌}
+use Rattle.dary_heap_uses.proofs.{map, vec_capacity, vec_len, ◌+◌, ◌≡◌, ◌≤◌}
 use Rattle.dary_heap_uses.proofs.Taking.{shown_timer}
 use Rattle.dary_heap_uses.proofs.timers.TimerQueue.coming.Given as goal
 
