@@ -68,6 +68,8 @@ pub type Line = (Workload, usize, usize);
 /// Sizes to beyond the caches.
 const ALL: &[usize] = &[1_000, 10_000, 100_000, 1_000_000, 10_000_000];
 const SOME: &[usize] = &[1_000, 100_000, 1_000_000];
+/// Of more items nothing but the set-up could be told.
+const SHORT: &[usize] = &[1_000, 100_000];
 
 impl Workload {
     const fn given(self, given: Given) -> Workload {
@@ -134,8 +136,7 @@ pub const WORKLOADS: [Workload; 30] = [
     on(Kind::Numbers, "append_eighth", Call::Append, SOME).by(eighth),
     on(Kind::Numbers, "retain", Call::Retain, SOME),
     on(Kind::Numbers, "into_iter_sorted", Call::Sorted, SOME),
-    // Of more items the set-up would take all of the time.
-    on(Kind::Numbers, "iter_sorted_ten", Call::Greatest, &[1_000, 100_000]).by(|_| 10),
+    on(Kind::Numbers, "iter_sorted_ten", Call::Greatest, SHORT).by(|_| 10),
     on(Kind::Numbers, "iter_sorted_all", Call::Greatest, SOME).by(|items| items),
     on(Kind::Entries, "build_entries", Call::Build, SOME),
     on(Kind::Entries, "push_entries", Call::Push, SOME),
