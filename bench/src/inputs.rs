@@ -4,7 +4,7 @@ use crate::items::Item;
 use crate::queue::Queue;
 use crate::random::Random;
 use crate::search::Pair;
-use crate::workload::{at_arity, Call, Given, Line, Task, Workload};
+use crate::workload::{asks, at_arity, Call, Given, Line, Task, Workload};
 use std::iter::zip;
 
 /// How many edges leave a node.
@@ -25,7 +25,11 @@ pub fn tasks<T: Item>((workload, arity, items): Line) -> Vec<Task<T>> {
     inputs(items, |mut random| {
         let mut drawn = || (0..items).map(|_| T::draw(&mut random)).collect();
         let first = placed(&workload, arity, drawn());
-        Task::new(first, drawn(), (workload.piece)(items))
+        let mut task = Task::new(first, drawn(), (workload.piece)(items));
+        if workload.call == Call::Greatest {
+            task.count = asks(task.piece) * task.piece;
+        }
+        task
     })
 }
 

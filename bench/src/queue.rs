@@ -5,7 +5,7 @@ use std::collections::BinaryHeap;
 use std::iter;
 
 /// A heap whose greatest item comes out first.
-pub trait Queue<T>: From<Vec<T>> + Extend<T> {
+pub trait Queue<T>: Clone + From<Vec<T>> + Extend<T> {
     /// The heap of items that are heap ordered at its arity, as they are if it has such a call.
     fn of_ordered(items: Vec<T>) -> Self;
     /// The items from the greatest to the least.
@@ -47,7 +47,7 @@ macro_rules! its_own {
     };
 }
 
-impl<T: Ord, const D: usize> Queue<T> for DaryHeap<T, D> {
+impl<T: Ord + Clone, const D: usize> Queue<T> for DaryHeap<T, D> {
     its_own!(DaryHeap);
 
     fn of_ordered(items: Vec<T>) -> Self {
@@ -61,7 +61,7 @@ impl<T: Ord, const D: usize> Queue<T> for DaryHeap<T, D> {
 }
 
 /// std's heap takes no vector as it is, so it builds, and has no sorted iterator, so it pops.
-impl<T: Ord> Queue<T> for BinaryHeap<T> {
+impl<T: Ord + Clone> Queue<T> for BinaryHeap<T> {
     its_own!(BinaryHeap);
 
     fn of_ordered(items: Vec<T>) -> Self {

@@ -22,7 +22,7 @@ namespace {
 constexpr std::uint64_t REFUSED = UINT64_MAX;
 
 // The calls as in workload.rs.
-enum Call : std::size_t { COPY, BUILD, PUSH, RESERVED, EXTEND, APPEND, HOLD, RETAIN, POP, SORTED, CHURN, TURNS };
+enum Call : std::size_t { COPY, BUILD, PUSH, RESERVED, EXTEND, APPEND, HOLD, RETAIN, POP, SORTED, CHURN, TURNS, GREATEST };
 
 // The same order as of the structs in items.rs.
 
@@ -57,6 +57,13 @@ template <typename T> struct Queue : std::priority_queue<T> {
         std::copy(this->c.begin(), this->c.end(), out);
         return this->c.size();
     }
+
+    // It has no iterator, so a copy pops.
+    void write_greatest(T *out, std::size_t most) const {
+        Queue copy(*this);
+        for (std::size_t at = 0; at < most; at++, copy.pop())
+            out[at] = copy.top();
+    }
 };
 
 #ifdef HAS_BOOST
@@ -74,6 +81,8 @@ template <typename T, unsigned D> struct Boosted : boost::heap::d_ary_heap<T, bo
         std::copy(this->begin(), this->end(), out);
         return this->size();
     }
+
+    void write_greatest(T *out, std::size_t most) const { std::copy_n(this->ordered_begin(), most, out); }
 };
 #endif
 
@@ -83,6 +92,7 @@ template <typename T> struct Given {
     std::size_t len;
     const T *more;
     std::size_t more_len;
+    std::size_t piece;
     T *out;
 };
 
@@ -138,6 +148,15 @@ template <typename T, typename Heap> std::uint64_t turns(const Given<T> &given) 
     return given.more_len;
 }
 
+// As in workload.rs.
+template <typename T, typename Heap> std::uint64_t greatest(const Given<T> &given) {
+    const Heap heap(given.items, given.len);
+    const std::size_t most = std::min(given.piece, given.len);
+    for (std::size_t asked = 0; asked < std::max<std::size_t>(10000 / given.piece, 1); asked++)
+        heap.write_greatest(given.out, most);
+    return most;
+}
+
 template <typename T, typename Heap> std::uint64_t work(Call call, const Given<T> &given) {
     switch (call) {
     case COPY:
@@ -156,6 +175,8 @@ template <typename T, typename Heap> std::uint64_t work(Call call, const Given<T
         return churn<T, Heap>(given);
     case TURNS:
         return turns<T, Heap>(given);
+    case GREATEST:
+        return greatest<T, Heap>(given);
     default:
         return REFUSED;
     }
@@ -190,8 +211,8 @@ template <typename T> std::uint64_t over(std::size_t heap, Call call, const Give
 
 #define RIVAL(NAME, T)                                                                                         \
     extern "C" std::uint64_t NAME(std::size_t call, std::size_t heap, const T *items, std::size_t len,         \
-                                  const T *more, std::size_t more_len, std::size_t, T *out, std::size_t) {     \
-        return over<T>(heap, static_cast<Call>(call), {items, len, more, more_len, out});                      \
+                                  const T *more, std::size_t more_len, std::size_t piece, T *out, std::size_t) { \
+        return over<T>(heap, static_cast<Call>(call), {items, len, more, more_len, piece, out});               \
     }
 
 RIVAL(rivals_of_numbers, std::int64_t)

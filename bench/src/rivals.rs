@@ -36,6 +36,10 @@ pub type Rivals<T> = fn(Call, usize) -> Vec<Rival<T, <T as Item>::Mark>>;
 /// Those that make a call on numbers, with the comparisons of some.
 pub fn of_numbers(call: Call, arity: usize) -> Vec<Rival<i64, i64>> {
     let mut rivals = of_items(call, arity);
+    // Who lends the greatest compares as no other does.
+    if call == Call::Greatest {
+        return rivals;
+    }
     for rival in &mut rivals {
         rival.count = match rival.name {
             HERE => Some(linked(function!(bench_counted(i64) -> i64), call, arity)),
@@ -71,8 +75,8 @@ pub fn of_items<T: Foreign>(call: Call, arity: usize) -> Vec<Rival<T, T::Mark>> 
 
 /// Whether the call writes the heap's slice.
 fn writes_slice(call: Call) -> bool {
-    use Call::{Churn, Copy, Pop, Sorted, Turns};
-    !matches!(call, Copy | Pop | Sorted | Churn | Turns)
+    use Call::{Churn, Copy, Greatest, Pop, Sorted, Turns};
+    !matches!(call, Copy | Pop | Sorted | Churn | Turns | Greatest)
 }
 
 fn linked<T: Foreign>(

@@ -26,6 +26,8 @@ pub enum Call {
     Churn,
     /// A pop and a push by turns: what came out goes in again a little less.
     Turns,
+    /// The greatest items, as many as a piece has, in descending order. The heap keeps them.
+    Greatest,
     /// Searches in a graph, of which lists are made. Other items have no such call.
     Search,
 }
@@ -54,7 +56,7 @@ pub struct Workload {
     pub kind: Kind,
     pub call: Call,
     pub given: Given,
-    /// How many of so many items an extend or an append takes at once.
+    /// How many of so many items an extend or an append takes at once, or are asked for as the greatest.
     pub piece: fn(usize) -> usize,
     /// The sizes, if none are asked for.
     pub sizes: &'static [usize],
@@ -66,6 +68,8 @@ pub type Line = (Workload, usize, usize);
 /// Sizes to beyond the caches.
 const ALL: &[usize] = &[1_000, 10_000, 100_000, 1_000_000, 10_000_000];
 const SOME: &[usize] = &[1_000, 100_000, 1_000_000];
+/// Of more items nothing but the set-up could be told.
+const SHORT: &[usize] = &[1_000, 100_000];
 
 impl Workload {
     const fn given(self, given: Given) -> Workload {
@@ -108,7 +112,15 @@ fn eighth(items: usize) -> usize {
     (items / 8).max(1)
 }
 
-pub const WORKLOADS: [Workload; 28] = [
+/// How many items are asked for in all, at least, if a heap is asked for its greatest ones.
+const GIVEN: usize = 10_000;
+
+/// How often a heap is asked for so many.
+pub fn asks(piece: usize) -> usize {
+    (GIVEN / piece).max(1)
+}
+
+pub const WORKLOADS: [Workload; 30] = [
     on(Kind::Numbers, "hold", Call::Hold, ALL),
     on(Kind::Numbers, "build", Call::Build, ALL),
     on(Kind::Numbers, "push_random", Call::Push, ALL),
@@ -124,6 +136,8 @@ pub const WORKLOADS: [Workload; 28] = [
     on(Kind::Numbers, "append_eighth", Call::Append, SOME).by(eighth),
     on(Kind::Numbers, "retain", Call::Retain, SOME),
     on(Kind::Numbers, "into_iter_sorted", Call::Sorted, SOME),
+    on(Kind::Numbers, "iter_sorted_ten", Call::Greatest, SHORT).by(|_| 10),
+    on(Kind::Numbers, "iter_sorted_all", Call::Greatest, SOME).by(|items| items),
     on(Kind::Entries, "build_entries", Call::Build, SOME),
     on(Kind::Entries, "push_entries", Call::Push, SOME),
     on(Kind::Entries, "pop_entries", Call::Pop, SOME),
@@ -207,6 +221,7 @@ pub fn work<T: Item, Q: Queue<T>>(call: Call, task: &Task<T>, out: &mut [T::Mark
         Call::Sorted => return sorted::<T, Q>(held(task), out),
         Call::Churn => return churn::<T, Q>(held(task), &task.more, out),
         Call::Turns => return turns::<T, Q>(held(task), &task.more, out),
+        Call::Greatest => return greatest::<T, Q>(held(task), task.piece, out),
         Call::Search => unreachable!("these items are no graph"),
     };
     written(heap.as_slice(), out)
@@ -304,4 +319,13 @@ fn turns<T: Item, Q: Queue<T>>(mut heap: Q, more: &[T], out: &mut [T::Mark]) -> 
         }
     }
     count
+}
+
+/// It pops from a copy.
+#[inline(never)]
+fn greatest<T: Item, Q: Queue<T>>(heap: Q, most: usize, out: &mut [T::Mark]) -> usize {
+    for _ in 0..asks(most) {
+        sorted(heap.clone(), &mut out[..most]);
+    }
+    most
 }

@@ -36,6 +36,14 @@ fix_bound D n place = depth D place + arity D * (depth D (n - 1) - depth D place
 abbrev pub search_bound : ℕ → ℕ → ℕ
 search_bound D edges = (edges + 1) * (push_bound D edges + pop_bound D (edges + 1))
 
+-- the candidates for the next item in order, once k were given: the first place at the start, and for each place that was given its children
+abbrev pub candidates_bound : ℕ → ℕ → ℕ
+candidates_bound D k = 1 + (arity D - 1) * k
+
+-- the next item in order after k others: a pop from that many candidates in a heap of arity 4, and a push for each child
+abbrev pub next_bound : ℕ → ℕ → ℕ
+next_bound D k = pop_bound 4 (candidates_bound D k) + arity D * push_bound 4 ((arity D - 1) * (k + 1))
+
 -- popping n items until none is left
 abbrev pub pops_bound : ℕ → ℕ → ℕ
 pops_bound D zero = 0

@@ -10,6 +10,7 @@ pub mod Ends
 pub mod Extending
 pub mod Filtering
 pub mod HeapOrder
+pub mod IterSorted
 pub mod LoanWrites
 pub mod Loan
 pub mod Machine
@@ -26,5 +27,6 @@ pub mod TwoArities
 pub mod Walk
 -- for private functions alone, by the module that they stand in
 pub mod hole
+pub mod iter
 pub mod shortest_path
 pub mod sift

@@ -71,5 +71,5 @@ pub use heap::{
     BinaryHeap, DaryHeap, OctonaryHeap, QuaternaryHeap, QuinaryHeap, SenaryHeap, SeptenaryHeap,
     TernaryHeap,
 };
-pub use iter::{Drain, DrainSorted, IntoIter, IntoIterSorted, Iter};
+pub use iter::{Drain, DrainSorted, IntoIter, IntoIterSorted, Iter, IterSorted};
 pub use peek_mut::PeekMut;

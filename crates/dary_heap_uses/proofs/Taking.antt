@@ -2,6 +2,15 @@
 use Rattle.dary_heap_uses.proofs.Common.{All, All-contains, All-mapped, All-nil, All-permutation, All-push, All-tail, AllPairs, AreDistinct, AreDistinct-map, Contains-map, Gets, Gets-all, Gets-map}
 use Rattle.dary_heap_uses.proofs.Common.{Greater, IsAbsent, IsAbsent-map, IsBefore, IsFirst, IsGreatest, IsPermutation-map, IsPermutation-pop_more, IsPermutation-refl, IsSameBag, List, Option}
 use Rattle.dary_heap_uses.proofs.Common.{Ordering, [], all_pairs_push, ap, append-nil, append_assoc, arith, by_item, flip_args, get_or, item_of, item_of-map, length-map, map, named, nat_cmp}
+use Rattle.dary_heap_uses.proofs.Common.{All-contains_itself, All-head, All-weaker, Contains, IsDescending, length, zero, suc}
+use Rattle.dary_heap.proofs.Common.{Contains-append_left, Contains-append_right, IsGivenDescending, cases_lt, map-append, min, nil_from_length, Bor}
+use Rattle.dary_heap.proofs.iter.InOrder.{gives_greatest}
+use Rattle.dary_heap.specs.IterSorted.{GivesNext, InOrder, StartsInOrder}
+use Rattle.indexed_heap.specs.Iterating.{shown}
+use mathlib.Core.List.{map-map}
+use Rattle.std.specs.Iterator.{Drains}
+use Rattle.dary_heap_uses.proofs.Common.{IsPermutation-trans, inl, inr, subst}
+use Rattle.dary_heap_uses.specs.Timers.{ComeNext}
 use Rattle.dary_heap_uses.proofs.Common.{option_map, ordering_then, refl, sym, ℕ, ◌++◌, ◌<◌, ◌∙◌, ◌∷◌, ◌≡◌, ◌≢◌, ◌≤◌, ◌⊎◌}
 
 -- one of two that isn't greater comes before the other, by the first number or by the second
@@ -82,3 +91,69 @@ module _ (old new : List (ℕ × (ℕ × ℕ))) (names : All HasItsName old) whe
   taken_named entry h = (h, all_left HasItsName old new entry h names, IsPermutation-map named old (entry ∷ new) h)
 
 pub ruleset when_set = (absent_named, gets_named, length-map)
+
+-- ---- what comes next, with nothing taken out
+
+-- the timer of an entry that is lent
+abbrev pub shown_timer : ℕ × Bor (ℕ × ℕ) → ℕ × ℕ
+shown_timer entry = (entry.0, entry.1.now.0)
+
+-- one entry isn't greater than another for the judge, so its timer comes after it
+comes_after : (a b : ℕ × (ℕ × ℕ)) → HasItsName a → HasItsName b → by_item by_moment b a ≢ Greater → IsBefore (named a) (named b)
+comes_after a b has is h = grind (arith, has, is, h)
+
+-- a first one that comes before all others
+pairs_cons : (x : ℕ × ℕ) (xs : List (ℕ × ℕ)) → All (IsBefore x) xs → AllPairs IsBefore xs → AllPairs IsBefore (x ∷ xs)
+pairs_cons x xs first later zero zero d lower within = absurd (omega (arith, lower))
+pairs_cons x xs first later zero (suc j) d lower within = first j d (omega (arith, within))
+pairs_cons x xs first later (suc i) zero d lower within = absurd (omega (arith, lower))
+pairs_cons x xs first later (suc i) (suc j) d lower within = later i j d (omega (arith, lower)) (omega (arith, within))
+
+module _ (entries : List (ℕ × (ℕ × ℕ))) (names : All HasItsName entries) where
+  -- entries that descend for the judge are timers in their order
+  in_their_order : (xs : List (ℕ × (ℕ × ℕ))) → All HasItsName xs → IsDescending (by_item by_moment) xs → AllPairs IsBefore (map named xs)
+  in_their_order [] has h = λ i j d lower within. absurd (omega (arith, within))
+  in_their_order (x ∷ xs) has h = pairs_cons (named x) (map named xs)
+      (All-mapped (IsBefore (named x)) named xs (λ other in'. comes_after x other (All-head HasItsName x xs has) (All-contains HasItsName xs other (All-tail HasItsName x xs has) in') (h.0 other in')))
+      (in_their_order xs (All-tail HasItsName x xs has) h.1)
+
+  pub those_next : (most : ℕ) (xs rest : List (ℕ × (ℕ × ℕ))) → IsGivenDescending (by_item by_moment) entries xs rest → length xs ≡ min most (length entries) → ComeNext most (map named entries) (map named xs)
+  those_next most xs rest given count =
+      let both = All-permutation HasItsName entries (xs ++ rest) given.bag names in
+      let first = All-weaker (Contains xs) HasItsName (λ x in'. All-contains HasItsName (xs ++ rest) x both (Contains-append_left xs rest x in')) xs (All-contains_itself xs) in
+      let last = All-weaker (Contains rest) HasItsName (λ x in'. All-contains HasItsName (xs ++ rest) x both (Contains-append_right xs rest x in')) rest (All-contains_itself rest) in
+      record {
+        others = map named rest;
+        none_lost = rw (← map-append named xs rest) (IsPermutation-map named entries (xs ++ rest) given.bag);
+        in_order = in_their_order xs first given.descending;
+        none_before = All-mapped (λ timer. All (IsBefore timer) (map named rest)) named xs (λ x in'.
+            All-mapped (IsBefore (named x)) named rest (λ y there. comes_after x y (All-contains HasItsName xs x first in') (All-contains HasItsName rest y last there) (given.none_greater x y in' there)));
+        count = length-map xs named ∙ count ∙ ap (min most) (sym (length-map entries named));
+      }
+
+  pub none_next : (most : ℕ) → min most (length entries) ≡ 0 → ComeNext most (map named entries) []
+  none_next most none = record {
+    others = map named entries;
+    none_lost = IsPermutation-refl (map named entries);
+    in_order = λ i j d lower within. absurd (omega (arith, within));
+    none_before = All-nil (λ timer. All (IsBefore timer) (map named entries));
+    count = sym (ap (min most) (length-map entries named) ∙ none);
+  }
+
+  -- what an iterator in order gives up to its end
+  pub come_next : (D most : ℕ) (from : InOrder (ℕ × (ℕ × ℕ))) (xs : List (ℕ × Bor (ℕ × ℕ))) → StartsInOrder D most entries from → Drains (GivesNext shown (by_item by_moment) D) from xs
+      → ComeNext most (map named entries) (map shown_timer xs)
+  come_next D most from xs starts drained =
+      let end = (gives_greatest shown (by_item by_moment) D from).all xs drained in
+      let given = end.2 in
+      let count : length (map shown xs) ≡ min most (length entries) = length-map xs shown ∙ end.0 ∙ starts.left in
+      elim (cases_lt 0 from.left) [
+        | inl some ↦ subst (ComeNext most (map named entries)) (map-map named shown xs) (those_next most (map shown xs) end.1 record {
+          bag = IsPermutation-trans entries from.rest (map shown xs ++ end.1) (starts.bag some) given.bag;
+          descending = given.descending;
+          none_greater = given.none_greater;
+        } count)
+        | inr none ↦
+            let empty : xs ≡ [] = nil_from_length xs (omega (arith, end.0, none)) in
+            subst (λ l. ComeNext most (map named entries) (map shown_timer l)) (sym empty) (none_next most (omega (arith, starts.left, none)))
+      ]

@@ -1,5 +1,5 @@
 -- Timers that are set for a moment, and taken once it has come. A timer is a pair: its name, and its moment.
-use Rattle.std.specs.Prelude.{◌≡◌, ◌⊎◌, ℕ, ◌<◌, ◌≤◌, List, ◌++◌, All, Contains}
+use Rattle.std.specs.Prelude.{◌≡◌, ◌⊎◌, ℕ, ◌<◌, ◌≤◌, min, List, ◌++◌, length, All, Contains}
 use Rattle.std.specs.List.{AllPairs}
 use Rattle.dary_heap.specs.Bag.{IsSameBag}
 
@@ -35,3 +35,11 @@ pub record AddsDue (now : ℕ) (set left before after : List (ℕ × ℕ)) : Typ
   pub taken : List (ℕ × ℕ)
   pub added : after ≡ before ++ taken
   pub takes : TakesDue now set taken left
+
+-- of the timers that are set, those that come next, in this order: as many as are asked for, or all, and none of the others is due before one of them
+pub record ComeNext (most : ℕ) (set coming : List (ℕ × ℕ)) : Type 0 where
+  pub others : List (ℕ × ℕ)
+  pub none_lost : IsSameBag set (coming ++ others)
+  pub in_order : AllPairs IsBefore coming
+  pub none_before : All (λ timer. All (IsBefore timer) others) coming
+  pub count : length coming ≡ min most (length set)

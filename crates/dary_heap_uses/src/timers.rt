@@ -1,10 +1,10 @@
 //! A timer queue: timers with names are set for moments, set again, cancelled, and taken out once they are due. A
 //! clause sees a queue as the `Timers` of `specs/Timers.antt`.
-ghost use Rattle.std.specs.Prelude.{◌≡◌, ◌==◌, ℕ, ◌+◌, ◌-◌, ◌<◌, ◌≤◌, ◌⊎◌, [], ◌∷◌, All, length, map, max, vec_len, vec_capacity, IfSome, IfNone, IfOk, OnOk, OnErr, IsOk};
+ghost use Rattle.std.specs.Prelude.{◌≡◌, ◌==◌, ℕ, ◌+◌, ◌-◌, ◌<◌, ◌≤◌, ◌⊎◌, [], ◌∷◌, All, length, map, max, min, vec_len, vec_capacity, IfSome, IfNone, IfOk, OnOk, OnErr, IsOk};
 ghost use Rattle.dary_heap.specs.Bag.{IsSameBag};
 ghost use Rattle.dary_heap.specs.Bounds.{RisesWithin, pop_bound, pops_bound};
 ghost use Rattle.indexed_heap.specs.Entries.{AreDistinct, Gets, InsertsWithin, IsAbsent, IsEntry, Loses, item_of};
-ghost use Rattle.dary_heap_uses.specs.Timers.{Timers, IsFirst, AddsDue, named};
+ghost use Rattle.dary_heap_uses.specs.Timers.{Timers, ComeNext, IsFirst, AddsDue, named};
 
 use dary_heap::sift::{ByOrd, LeastFirst};
 use indexed_heap::IndexedHeap;
@@ -152,6 +152,34 @@ impl<const D: usize> TimerQueue<D> {
     {
         let cancelled = self.waiting.remove(name)?;
         Some(cancelled.0)
+    }
+
+    /// Returns the timers that are due next, in their order: `most` of them, or all if they are fewer. The queue stays as
+    /// it is, and however long it is, only those that may come next are compared.
+    ///
+    /// Fails if memory allocation fails. If no timer is asked for, or none is set, it doesn't fail.
+    ///
+    /// # Examples
+    ///
+    /// ```
+    /// use dary_heap_uses::timers::TimerQueue;
+    /// let mut queue = TimerQueue::<4>::new(alloc);
+    /// queue.set(1, 9)?;
+    /// queue.set(2, 3)?;
+    /// queue.set(3, 4)?;
+    /// assert_eq!(rt; queue.coming(alloc, 2)?.as_slice(), [(2, 3), (3, 4)].as_slice());
+    /// assert_eq!(rt; queue.len(), 3);
+    /// ```
+    pub fn coming(&self, alloc: Global, most: usize) -> Result<Vec<(usize, u64)>, AllocError>
+        ensures next { IfOk result (λ coming. ComeNext most self.now.set coming.items) }
+        ensures succeeds { min most (length self.now.set) ≡ 0 → IsOk result }
+    {
+        let timers = self.waiting.iter_sorted(alloc, most)?;
+        let mut coming = Vec::with_capacity(alloc, timers.len())?;
+        for (name, timer) in timers {
+            coming.push_reserved((name, timer.0));
+        }
+        Ok(coming)
     }
 
     /// Removes the first timer and returns its name and its moment if that has come, and otherwise returns `None`.

@@ -8,5 +8,6 @@ pub mod Callers
 pub mod AsMap
 pub mod Iterating
 pub mod Copying
+pub mod InOrder
 pub mod Keys
 pub mod Mapping

@@ -5,7 +5,7 @@ ghost use Rattle.dary_heap.specs.HeapOrder.{arity as arity_of, depth as depth_of
 
 /// Returns how many children a place may have: `D`, or 1 if that is 0.
 #[inline(always)]
-pub(super) fn arity<const D: usize>() -> usize
+pub(crate) fn arity<const D: usize>() -> usize
     ensures { result ≡ arity_of D }
 {
     D.max(1)
@@ -69,7 +69,7 @@ pub fn depth<const D: usize>(place: usize) -> usize
 
 /// Returns where the children of place `at` begin among `len` places, or `None` if it has none.
 #[inline(always)]
-pub(super) fn first_child<const D: usize>(at: usize, len: usize) -> Option<usize>
+pub(crate) fn first_child<const D: usize>(at: usize, len: usize) -> Option<usize>
     requires { at < len }
     ensures { IsFirstChild D at len result }
 {

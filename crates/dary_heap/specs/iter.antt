@@ -1,0 +1,2 @@
+-- What the private parts of the module `iter` keep.
+pub mod Candidates
