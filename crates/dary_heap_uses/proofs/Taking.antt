@@ -117,7 +117,8 @@ module _ (entries : List (ℕ × (ℕ × ℕ))) (names : All HasItsName entries)
       (All-mapped (IsBefore (named x)) named xs (λ other in'. comes_after x other (All-head HasItsName x xs has) (All-contains HasItsName xs other (All-tail HasItsName x xs has) in') (h.0 other in')))
       (in_their_order xs (All-tail HasItsName x xs has) h.1)
 
-  pub those_next : (most : ℕ) (xs rest : List (ℕ × (ℕ × ℕ))) → IsGivenDescending (by_item by_moment) entries xs rest → length xs ≡ min most (length entries) → ComeNext most (map named entries) (map named xs)
+  pub those_next : (most : ℕ) (xs rest : List (ℕ × (ℕ × ℕ))) → IsGivenDescending (by_item by_moment) entries xs rest → length xs ≡ min most (length entries)
+      → ComeNext most (map named entries) (map named xs)
   those_next most xs rest given count =
       let both = All-permutation HasItsName entries (xs ++ rest) given.bag names in
       let first = All-weaker (Contains xs) HasItsName (λ x in'. All-contains HasItsName (xs ++ rest) x both (Contains-append_left xs rest x in')) xs (All-contains_itself xs) in
@@ -127,7 +128,8 @@ module _ (entries : List (ℕ × (ℕ × ℕ))) (names : All HasItsName entries)
         none_lost = rw (← map-append named xs rest) (IsPermutation-map named entries (xs ++ rest) given.bag);
         in_order = in_their_order xs first given.descending;
         none_before = All-mapped (λ timer. All (IsBefore timer) (map named rest)) named xs (λ x in'.
-            All-mapped (IsBefore (named x)) named rest (λ y there. comes_after x y (All-contains HasItsName xs x first in') (All-contains HasItsName rest y last there) (given.none_greater x y in' there)));
+            All-mapped (IsBefore (named x)) named rest (λ y there.
+                comes_after x y (All-contains HasItsName xs x first in') (All-contains HasItsName rest y last there) (given.none_greater x y in' there)));
         count = length-map xs named ∙ count ∙ ap (min most) (sym (length-map entries named));
       }
 

@@ -1,7 +1,9 @@
 -- What becomes of the candidates of an `IterSorted` when one is given and its children come.
-use Rattle.dary_heap.proofs.{◌≡◌, ◌≢◌, ℕ, zero, suc, ◌+◌, ◌-◌, ◌*◌, ◌<◌, ◌≤◌, List, [], ◌∷◌, ◌++◌, All, Some, length, slice_get, get_or, inl, inr, cases_eq, cases_lt, if◌then◌else◌, refl, sym, ap, ◌∙◌, subst, arith, Bor}
+use Rattle.dary_heap.proofs.{◌≡◌, ◌≢◌, ℕ, zero, suc, ◌+◌, ◌-◌, ◌*◌, ◌<◌, ◌≤◌, List, [], ◌∷◌, ◌++◌, All, Some, length, slice_get, get_or, inl, inr}
+use Rattle.dary_heap.proofs.{cases_eq, cases_lt, if◌then◌else◌, refl, sym, ap, ◌∙◌, subst, arith, Bor}
 use Rattle.dary_heap.proofs.{IsPermutation, IsPermutation-sym, IsPermutation-trans, IsPermutation-cons, IsPermutation-middle, append_assoc, slice_get_read}
-use Rattle.dary_heap.proofs.{Contains, Contains-permutation, Contains-first, Ordering, Greater, IsGreatest, IsTotalOrder, IsHeapOrdered, arity, min, not_greater-trans, slice_get_within, length-append, length-map, All-contains, All-weaker, All-contains_itself}
+use Rattle.dary_heap.proofs.{Contains, Contains-permutation, Contains-first, Ordering, Greater, IsGreatest, IsTotalOrder, IsHeapOrdered, arity, min}
+use Rattle.dary_heap.proofs.{not_greater-trans, slice_get_within, length-append, length-map, All-contains, All-weaker, All-contains_itself}
 use Rattle.dary_heap.proofs.{RisesWithin, depth-later, times_depth-later, length_permutation, mul-le-mul, mul-le-mul_left, pop_bound, push_bound}
 use Rattle.dary_heap.specs.Bounds.{candidates_bound, next_bound}
 use Rattle.std.proofs.lemmas.List.Elements.{All-append, All-cons, All-head, All-map, All-nil, All-tail}
@@ -10,7 +12,7 @@ use Rattle.std.proofs.lemmas.Grind.{flat_map-append}
 use Rattle.std.proofs.lemmas.List.Sorted.{All-permutation, IsPermutation-map}
 use Rattle.std.specs.List.{range_with_len}
 use Rattle.std.specs.Prelude.{◌==◌}
-use Rattle.dary_heap.specs.iter.Candidates.{AreCandidates, StandAtPlaces, by_shown, not_given, places_of, tree_within, trees}
+use Rattle.dary_heap.specs.iter.Candidates.{AreCandidates, StandAtPlaces, StandsAtPlace, by_shown, not_given, places_of, tree_within, trees}
 use Rattle.dary_heap.proofs.Cancelling.{IsPermutation-flat_map}
 use Rattle.dary_heap.proofs.iter.Trees.{all_items, clipped, count_trees, range-append, tree_at, tree_below}
 
@@ -43,8 +45,8 @@ module _ {T : Type 0} (items : List T) where
   pub stand_more : (came : Bor T × ℕ) (old new : List (Bor T × ℕ)) → IsPermutation (came ∷ old) new → came.1 < length items → came.0.now ≡ get_or items came.1 came.0.now
       → StandAtPlaces items old → StandAtPlaces items new
   stand_more came old new bag inside is stand =
-      All-permutation (λ (c : Bor T × ℕ). slice_get items c.1 ≡ Some c.0.now) (came ∷ old) new bag
-      (All-cons (λ (c : Bor T × ℕ). slice_get items c.1 ≡ Some c.0.now) came old (slice_get_read items (length items) came.1 came.0.now refl inside is) stand)
+      All-permutation (StandsAtPlace items) (came ∷ old) new bag
+      (All-cons (StandsAtPlace items) came old (slice_get_read items (length items) came.1 came.0.now refl inside is) stand)
 
 module _ {T : Type 0} (D : ℕ) (items : List T) where
   -- the candidate that is given, its children, and the others
@@ -73,11 +75,11 @@ module _ {T : Type 0} (D : ℕ) (items : List T) where
     bounded x [] stand below = All-nil (λ y. cmp y x ≢ Greater)
     bounded x (c ∷ cs) stand below =
         let tree = tree_within D items (length items) c.1 in
-        let there = All-head (λ (c : Bor T × ℕ). slice_get items c.1 ≡ Some c.0.now) c cs stand in
+        let there = All-head (StandsAtPlace items) c cs stand in
         let under = All-head (λ (c : Bor T × ℕ). cmp c.0.now x ≢ Greater) c cs below in
         All-append (λ y. cmp y x ≢ Greater) tree (not_given D items cs)
         (All-weaker (λ y. cmp y c.0.now ≢ Greater) (λ y. cmp y x ≢ Greater) (λ y less. not_greater-trans total y c.0.now x less under) tree (tree_below D items total ordered c.1 c.0.now there))
-        (bounded x cs (All-tail (λ (c : Bor T × ℕ). slice_get items c.1 ≡ Some c.0.now) c cs stand) (All-tail (λ (c : Bor T × ℕ). cmp c.0.now x ≢ Greater) c cs below))
+        (bounded x cs (All-tail (StandsAtPlace items) c cs stand) (All-tail (λ (c : Bor T × ℕ). cmp c.0.now x ≢ Greater) c cs below))
 
     pub rest_greatest : (c : Bor T × ℕ) (cs : List (Bor T × ℕ)) (rest : List T) → StandAtPlaces items cs → IsGreatest (by_shown cmp) cs c
         → IsPermutation (not_given D items cs) (c.0.now ∷ rest) → IsGreatest cmp (not_given D items cs) c.0.now
@@ -89,7 +91,7 @@ module _ {T : Type 0} (D : ℕ) (items : List T) where
 
   stand_within : (cs : List (Bor T × ℕ)) → StandAtPlaces items cs → All (λ place. place < length items) (places_of cs)
   stand_within cs stand = All-map (λ place. place < length items) (λ (c : Bor T × ℕ). c.1) cs
-      (All-weaker (λ (c : Bor T × ℕ). slice_get items c.1 ≡ Some c.0.now) (λ (c : Bor T × ℕ). c.1 < length items) (λ c there. slice_get_within items c.1 c.0.now there) cs stand)
+      (All-weaker (StandsAtPlace items) (λ (c : Bor T × ℕ). c.1 < length items) (λ c there. slice_get_within items c.1 c.0.now there) cs stand)
 
   row_within : (first n : ℕ) → first + n ≤ length items → All (λ place. place < length items) (range_with_len first n)
   row_within first zero h = All-nil (λ place. place < length items)
@@ -106,10 +108,10 @@ module _ {T : Type 0} (D : ℕ) (items : List T) where
 module _ {T : Type 0} (cmp : T → T → Ordering) (D : ℕ) (items : List T) (old : List (Bor T × ℕ)) (left room : ℕ) (was : AreCandidates cmp D items old left room) (some : 0 < left)
     (c : Bor T × ℕ) (mid : List (Bor T × ℕ)) (taken : IsPermutation old (c ∷ mid)) where
   pub given_stands : slice_get items c.1 ≡ Some c.0.now
-  given_stands = All-head (λ (c : Bor T × ℕ). slice_get items c.1 ≡ Some c.0.now) c mid (All-permutation (λ (c : Bor T × ℕ). slice_get items c.1 ≡ Some c.0.now) old (c ∷ mid) taken was.stand)
+  given_stands = All-head (StandsAtPlace items) c mid (All-permutation (StandsAtPlace items) old (c ∷ mid) taken was.stand)
 
   pub others_stand : StandAtPlaces items mid
-  others_stand = All-tail (λ (c : Bor T × ℕ). slice_get items c.1 ≡ Some c.0.now) c mid (All-permutation (λ (c : Bor T × ℕ). slice_get items c.1 ≡ Some c.0.now) old (c ∷ mid) taken was.stand)
+  others_stand = All-tail (StandsAtPlace items) c mid (All-permutation (StandsAtPlace items) old (c ∷ mid) taken was.stand)
 
   module _ (first end : ℕ) (at : first ≡ min (length items) (c.1 * arity D + 1)) (to : end ≡ min (length items) (c.1 * arity D + 1 + arity D)) where
     -- there is room for its children
@@ -133,7 +135,8 @@ module _ {T : Type 0} (cmp : T → T → Ordering) (D : ℕ) (items : List T) (o
       candidates_stay stand heap len =
           let one = length_permutation old (c ∷ mid) taken in
           let step = length_permutation _ _ given_step in
-          let more : (arity D - 1) * (length items - length (not_given D items new)) ≡ (arity D - 1) * (length items - length (not_given D items old)) + (arity D - 1) = omega (arith, ap (λ n. (arity D - 1) * n) one_more) in
+          let more : (arity D - 1) * (length items - length (not_given D items new)) ≡ (arity D - 1) * (length items - length (not_given D items old)) + (arity D - 1) =
+          omega (arith, ap (λ n. (arity D - 1) * n) one_more) in
           let before : left ≡ left - 1 + 1 = omega (arith, some) in
           let less : (arity D - 1) * left ≡ (arity D - 1) * (left - 1) + (arity D - 1) = omega (arith, ap (λ n. (arity D - 1) * n) before) in
           record {
@@ -171,17 +174,18 @@ module _ {T : Type 0} (items : List T) where
   begins_none new left none empty = record {
     none = λ _. empty;
     first = λ some. absurd (omega (arith, none, some));
-    stand = subst (StandAtPlaces items) (sym empty) (All-nil (λ (c : Bor T × ℕ). slice_get items c.1 ≡ Some c.0.now));
+    stand = subst (StandAtPlaces items) (sym empty) (All-nil (StandsAtPlace items));
   }
 
-  pub begins_first : (old new : List (Bor T × ℕ)) (first : Bor T) (left : ℕ) → new ≡ old ++ (first, 0) ∷ [] → old ≡ [] → left ≢ 0 → 0 < length items → first.now ≡ get_or items 0 first.now → Begins items new left
+  pub begins_first : (old new : List (Bor T × ℕ)) (first : Bor T) (left : ℕ) → new ≡ old ++ (first, 0) ∷ [] → old ≡ [] → left ≢ 0 → 0 < length items
+      → first.now ≡ get_or items 0 first.now → Begins items new left
   begins_first old new first left came empty some inside is =
       let stands : slice_get items 0 ≡ Some first.now = slice_get_read items (length items) 0 first.now refl inside is in
       let one : new ≡ (first, 0) ∷ [] = came ∙ ap (λ l. l ++ (first, 0) ∷ []) empty in
       record {
         none = λ e. absurd (some e);
         first = λ _. ap places_of one;
-        stand = subst (StandAtPlaces items) (sym one) (All-cons (λ (c : Bor T × ℕ). slice_get items c.1 ≡ Some c.0.now) (first, 0) [] stands (All-nil (λ (c : Bor T × ℕ). slice_get items c.1 ≡ Some c.0.now)));
+        stand = subst (StandAtPlaces items) (sym one) (All-cons (StandsAtPlace items) (first, 0) [] stands (All-nil (StandsAtPlace items)));
       }
 
 module _ {T : Type 0} (cmp : T → T → Ordering) (D : ℕ) (items : List T) (ordered : IsHeapOrdered cmp D items) where
@@ -204,7 +208,7 @@ module _ {T : Type 0} (cmp : T → T → Ordering) (D : ℕ) (items : List T) (o
         subst (λ cs. AreCandidates cmp D items cs left room) (sym (begins.none none)) record {
           ordered = ordered;
           heap = short_ordered [] (omega arith);
-          stand = All-nil (λ (c : Bor T × ℕ). slice_get items c.1 ≡ Some c.0.now);
+          stand = All-nil (StandsAtPlace items);
           enough = omega (arith, none);
           within = omega arith;
           few = omega arith;

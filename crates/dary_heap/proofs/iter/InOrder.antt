@@ -1,6 +1,7 @@
 -- What calls of `next` of an `IterSorted` give in a row.
 use Rattle.dary_heap.proofs.{◌≡◌, ◌≢◌, ℕ, ◌+◌, ◌<◌, List, [], ◌∷◌, ◌++◌, Option, None, is_some, true, length, map, inl, inr, cases_lt, refl, ap, subst, arith, Contains, Yields, Ordering, Greater}
-use Rattle.dary_heap.proofs.{IsPermutation, IsPermutation-cons, IsPermutation-refl, IsPermutation-sym, IsPermutation-trans, Contains-append_left, Contains-append_right, Contains-cases, came_later, IsDescending, IsGivenDescending}
+use Rattle.dary_heap.proofs.{IsPermutation, IsPermutation-cons, IsPermutation-refl, IsPermutation-sym, IsPermutation-trans, Contains-append_left, Contains-append_right}
+use Rattle.dary_heap.proofs.{Contains-cases, came_later, IsDescending, IsGivenDescending}
 use Rattle.dary_heap.specs.IterSorted.{GivesGreatest, GivesNext, InOrder}
 
 module _ {A T : Type 0} (shown : A → T) (cmp : T → T → Ordering) (D : ℕ) where

@@ -1,7 +1,8 @@
 -- The trees below places: what is in them, and that those below a heap's first place have all its items.
 use Rattle.dary_heap.proofs.{◌≡◌, ◌≢◌, ℕ, zero, suc, ◌+◌, ◌-◌, ◌*◌, ◌<◌, ◌≤◌, List, [], ◌∷◌, ◌++◌, All, Some, length, get_or, take, drop, slice_get, inl, inr, refl, sym, ap, ◌∙◌, subst, arith}
 use Rattle.dary_heap.proofs.{IsPermutation, IsPermutation-refl, IsPermutation-trans, IsPermutation-cons, append-nil}
-use Rattle.dary_heap.proofs.{Ordering, Greater, IsTotalOrder, IsHeapOrdered, arity, parent, child-is, not_greater-self, not_greater-trans, slice_get_cases, slice_get_past, length-append, cases_lt, min, mul-le-mul_left, take-append-drop}
+use Rattle.dary_heap.proofs.{Ordering, Greater, IsTotalOrder, IsHeapOrdered, arity, parent, child-is, not_greater-self, not_greater-trans, slice_get_cases, slice_get_past}
+use Rattle.dary_heap.proofs.{length-append, cases_lt, min, mul-le-mul_left, take-append-drop}
 use Rattle.std.proofs.lemmas.Grind.{flat_map-append}
 use Rattle.std.proofs.lemmas.List.{drop_all, drop-drop, drop_more}
 use Rattle.std.proofs.lemmas.List.Elements.{All-append, All-cons, All-head, All-nil, All-tail, All-weaker}
@@ -171,7 +172,8 @@ module _ {T : Type 0} (D : ℕ) (items : List T) where
               All-weaker (λ y. cmp y at.0 ≢ Greater) (λ y. cmp y x ≢ Greater) (λ y less. not_greater-trans total y at.0 x less under_parent) (tree_within D items fuel i) (below_root fuel i at.0 at.2)
           | inr out ↦ subst (All (λ y. cmp y x ≢ Greater)) (sym (past fuel i out.0)) (All-nil _)
         ] in
-        subst (λ o. All (λ y. cmp y x ≢ Greater) (under o row)) (sym there) (All-cons (λ y. cmp y x ≢ Greater) x row (not_greater-self total x) (row_all (λ y. cmp y x ≢ Greater) (tree_within D items fuel) first (arity D) child))
+        subst (λ o. All (λ y. cmp y x ≢ Greater) (under o row)) (sym there)
+        (All-cons (λ y. cmp y x ≢ Greater) x row (not_greater-self total x) (row_all (λ y. cmp y x ≢ Greater) (tree_within D items fuel) first (arity D) child))
 
     pub tree_below : (place : ℕ) (x : T) → slice_get items place ≡ Some x → All (λ y. cmp y x ≢ Greater) (tree_within D items (length items) place)
     tree_below place x there = below_root (length items) place x there

@@ -23,9 +23,12 @@ trees D items places = flat_map (tree_within D items (length items)) places
 abbrev pub places_of : {T : Type 0} → List (Bor T × ℕ) → List ℕ
 places_of {T} candidates = map (λ (c : Bor T × ℕ). c.1) candidates
 
--- each candidate is the item at its place
+-- a candidate is the item at its place
+abbrev pub StandsAtPlace : {T : Type 0} → List T → Bor T × ℕ → Type 0
+StandsAtPlace items candidate = slice_get items candidate.1 ≡ Some candidate.0.now
+
 abbrev pub StandAtPlaces : {T : Type 0} → List T → List (Bor T × ℕ) → Type 0
-StandAtPlaces {T} items candidates = All (λ (c : Bor T × ℕ). slice_get items c.1 ≡ Some c.0.now) candidates
+StandAtPlaces items candidates = All (StandsAtPlace items) candidates
 
 -- candidates are compared by their items alone
 abbrev pub by_shown : {T : Type 0} → (T → T → Ordering) → Bor T × ℕ → Bor T × ℕ → Ordering

@@ -17,7 +17,8 @@ begins g c = elim c.if-left-ne0.branch [
   | else-left-ne0 w ↦ begins_none c.as_slice-items.result.now _ _ (omega (arith, w.if-left-ne0.false)) (ap (λ v. v.items) w.candidates-is ∙ c.in_ok-candidates.ensures.items)
 ]
 
-has_room : (g : _) (c : goal.Joined-left-ne0 g) → vec_capacity c.if-left-ne0.candidates ≡ (if c.min-left.result == 0 then 0 else min (length c.as_slice-items.result.now) (candidates_bound g.row.D c.min-left.result))
+has_room : (g : _) (c : goal.Joined-left-ne0 g) → vec_capacity c.if-left-ne0.candidates
+    ≡ (if c.min-left.result == 0 then 0 else min (length c.as_slice-items.result.now) (candidates_bound g.row.D c.min-left.result))
 has_room g c = elim c.if-left-ne0.branch [
   | then-left-ne0 w ↦ ap vec_capacity w.candidates-is ∙ w.push_reserved.ensures.capacity ∙ c.in_ok-candidates.ensures.exact ∙ c.room_for.ensures
   | else-left-ne0 w ↦ ap vec_capacity w.candidates-is ∙ c.in_ok-candidates.ensures.exact ∙ c.room_for.ensures
