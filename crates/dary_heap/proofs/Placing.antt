@@ -39,6 +39,10 @@ module _ {X : Type 0} (key : X → ℕ) where
         cc;
   }
 
+  -- and is so but at any place
+  pub right_but_at : (place : ℕ) {xs : List X} {places : List ℕ} → AreRight key xs places → AreRightButAt key place xs places
+  right_but_at place h = record { elsewhere = λ i item _. h.right i item }
+
   -- items that move have the keys that they had
   pub keys_moved : {limit : ℕ} (xs ys : List X) → IsPermutation xs ys → HaveKeys key limit xs → HaveKeys key limit ys
   keys_moved {limit} xs ys same keys = IsPermutation-keeps xs (HaveKeys key limit) keys (λ l a b p q h.
