@@ -2,7 +2,7 @@
 use Rattle.dary_heap.proofs.Common.{◌≡◌, ◌≢◌, ◌⊎◌, ℕ, zero, suc, ◌<◌, ◌≤◌, ◌∷◌, inl, inr, List, length, set, swap, refl, sym, ap, subst, ◌∙◌, arith, Some, slice_get, cases_eq, parent}
 use Rattle.dary_heap.proofs.Common.{Contains-permutation, IsPermutation, IsPermutation-sym, get_or_from_slice_get, slice_get-get_or, slice_get_within}
 use Rattle.dary_heap.proofs.Order.{Exchanges, exchanges, slice_get-set_other, slice_get-set_same}
-use Rattle.dary_heap.proofs.Path.{GoesUp-le, GoesUp-permutation, GoesUpBy-above, above-le, next_on_path, on_path_or_still}
+use Rattle.dary_heap.proofs.Path.{GoesUp-le, GoesUp-permutation, GoesUpBy-above, lone_on_path, next_on_path, on_path_or_still}
 use Rattle.std.proofs.lemmas.List.Sorted.{IsPermutation-keeps}
 use Rattle.std.specs.Prelude.{max, min}
 use Rattle.dary_heap.specs.Path.{GoesTo, GoesUp, IsAbove, IsOnPath}
@@ -24,6 +24,7 @@ came_from xs ys a b e i = elim (cases_eq i a) [
   ]
 ]
 
+-- two items came from two places
 came_apart : (a b i j s t : ℕ) → i ≢ j → (i ≡ a → s ≡ b) → (i ≡ b → s ≡ a) → (i ≢ a → i ≢ b → s ≡ i) → (j ≡ a → t ≡ b) → (j ≡ b → t ≡ a) → (j ≢ a → j ≢ b → t ≡ j) → s ≢ t
 came_apart a b i j s t ne p q r x y z e = grind arith
 
@@ -90,12 +91,7 @@ module _ {X : Type 0} (key : X → ℕ) where
     noted_next = record { elsewhere = λ i item off here. noted i item (λ apart on. off (next_on_path D at high i apart on)) here }
 
     pub noted_last : at ≤ high → AreRight key xs (set places (key x) at)
-    noted_last ends = record {
-      right = λ i item here. noted i item (λ apart on.
-          let low = above-le D on.above_low.levels at in
-          let up = above-le D on.below_high.levels i in
-          apart (omega (arith, ends, low, on.above_low.there, up, on.below_high.there))) here;
-    }
+    noted_last ends = record { right = λ i item here. noted i item (λ apart on. apart (lone_on_path D at high i ends on)) here }
 
   module _ (D low high : ℕ) (xs ys : List X) {places : List ℕ} where
     off_path : (from : ℕ) → IsOnPath D low high from → ((i : ℕ) → IsOnPath D low high i ⊎ (slice_get ys i ≡ slice_get xs i)) → AreRightButAt key from xs places → AreRightOffPath key D low high ys places

@@ -1,4 +1,4 @@
--- A table of places beside items: at the key of each item it has the place at which the item stands. The key is a number that an item has. D is the const parameter.
+-- A table of places, which a caller may keep beside items: at the key of each item it has the place at which the item stands. The function `key` gives the key of an item. D is the const parameter.
 use Rattle.std.specs.Prelude.{◌≡◌, ◌≢◌, ℕ, ◌<◌, List, slice_get, Some}
 use Rattle.dary_heap.specs.Path.{IsOnPath}
 
@@ -8,7 +8,7 @@ module _ {T : Type 0} (key : T → ℕ) where
     pub below : (i : ℕ) (item : T) → slice_get items i ≡ Some item → key item < limit
     pub distinct : (i j : ℕ) (a b : T) → slice_get items i ≡ Some a → slice_get items j ≡ Some b → key a ≡ key b → i ≡ j
 
-  -- the place of each item is right
+  -- at the key of each item stands the place of the item. So no two items have the same key
   pub record AreRight (items : List T) (places : List ℕ) : Type 0 where
     pub right : (i : ℕ) (item : T) → slice_get items i ≡ Some item → slice_get places (key item) ≡ Some i
 

@@ -4,16 +4,19 @@ use Rattle.std.specs.Bool.{OnTrue, OnFalse}
 use Rattle.dary_heap.specs.Places as table
 use Rattle.dary_heap_c.specs.declared.entry.Entry.{Entry}
 
--- the words of such a table, in which the key of an entry is its value
+-- the key of an entry in such a table is its value
 abbrev pub value_of : Entry → ℕ
 value_of entry = entry.value
 
+-- no two entries have the same value, and each value is below the limit
 abbrev pub HaveKeys : ℕ → List Entry → Type 0
 HaveKeys = table.HaveKeys value_of
 
+-- the place of each entry is right
 abbrev pub AreRight : List Entry → List ℕ → Type 0
 AreRight = table.AreRight value_of
 
+-- the same but for those of the entries on the path from place `low` up to place `high`
 abbrev pub AreRightOffPath : (D low high : ℕ) → List Entry → List ℕ → Type 0
 AreRightOffPath = table.AreRightOffPath value_of
 
