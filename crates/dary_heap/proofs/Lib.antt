@@ -9,6 +9,7 @@ pub mod Depth
 pub mod Fronts
 pub mod Order
 pub mod Path
+pub mod Placing
 pub mod Popping
 pub use Bags.*
 pub use Common.*

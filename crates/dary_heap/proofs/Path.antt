@@ -114,6 +114,6 @@ next_on_path D at high i apart on = record { above_low = go on.above_low.levels 
   go zero there = absurd (apart (sym there))
   go (suc n) there = record { levels = n; there = there }
 
--- a path of one place
-pub lone_on_path : (D at i : ℕ) → IsOnPath D at at i → i ≡ at
-lone_on_path D at i on = omega (arith, above-le D on.above_low.levels at, on.above_low.there, above-le D on.below_high.levels i, on.below_high.there)
+-- a path that ends where it begins
+pub lone_on_path : (D at high i : ℕ) → at ≤ high → IsOnPath D at high i → i ≡ at
+lone_on_path D at high i ends on = omega (arith, ends, above-le D on.above_low.levels at, on.above_low.there, above-le D on.below_high.levels i, on.below_high.there)

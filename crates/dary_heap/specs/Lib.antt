@@ -16,6 +16,7 @@ pub mod Loan
 pub mod Machine
 pub mod Path
 pub mod PeekMut
+pub mod Places
 pub mod Popping
 pub mod Reading
 pub mod Room

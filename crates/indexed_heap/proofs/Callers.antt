@@ -1,7 +1,5 @@
 -- What callers need besides the contracts.
-use Rattle.dary_heap.proofs.Common.{◌≢◌, ℕ, List, ◌∷◌, Some, length, refl, ap, RisesWithin, sink_bound, ◌∙◌, slice_get-get_or, get_or_from_slice_get, slice_get_within, Contains}
-use Rattle.dary_heap.proofs.Common.{Contains-permutation, IsPermutation, IsPermutation-sym}
-use Rattle.dary_heap.proofs.Bags.{Contains-later}
+use Rattle.dary_heap.proofs.Common.{◌≢◌, ℕ, suc, List, ◌∷◌, Some, length, refl, ap, RisesWithin, sink_bound, ◌∙◌, slice_get-get_or, slice_get_within, Contains, IsPermutation}
 use Rattle.indexed_heap.specs.Entries.{InsertsWithin, IsAbsent, IsEntry}
 use Rattle.indexed_heap.proofs.Bounding.{within_sink}
 pub use Rattle.indexed_heap.proofs.AsMap.{none_there, one_item, item_of-absent, item_of-there, item_of-none, item_of-has, item_of-agrees, Gets-here, Gets-others, Gets-given, Loses-given}
@@ -15,11 +13,7 @@ absent_apart key entries entry h in' = h.none in'.0 entry (slice_get-get_or entr
 
 -- what was absent stays so if an entry is taken out
 pub absent_left : {X : Type 0} (key : ℕ) (old new : List (ℕ × X)) (entry : ℕ × X) → IsPermutation old (entry ∷ new) → IsAbsent key old → IsAbsent key new
-absent_left key old new entry bag h = record {
-  none = λ i other there.
-      let in' : Contains new other = (i, slice_get_within new i other there, get_or_from_slice_get new i other other there) in
-      absent_apart key old other h (Contains-permutation (entry ∷ new) old other (IsPermutation-sym old (entry ∷ new) bag) (Contains-later entry new other in'));
-}
+absent_left key old new entry bag h = record { none = λ i. (still_absent key old (entry ∷ new) bag h).none (suc i) }
 
 -- at any place an insert of a key with an item takes no more comparisons than sifting down the first of as many items
 pub insert_within_sink : {T : Type 0} (D key at before after : ℕ) (old : List (ℕ × T)) → IsEntry old at key → InsertsWithin D key old before after →

@@ -1,95 +1,57 @@
 -- An entry that is added behind the others, and one that is taken out, whose place the last entry takes.
-use Rattle.dary_heap.proofs.Common.{◌≡◌, ◌≢◌, ℕ, ◌-◌, ◌<◌, ◌≤◌, List, [], ◌∷◌, ◌++◌, length, get_or, set, refl, sym, ap, ◌∙◌, subst, arith, inl, inr, Some, slice_get, cases_eq, cases_lt}
-use Rattle.dary_heap.proofs.Common.{length-append, slice_get-get_or, slice_get_within, IsPermutation, IsPermutation-sym, Contains, Contains-permutation, get_or_from_slice_get}
-use Rattle.dary_heap.proofs.Order.{read, slice_get-append, slice_get-set_other, slice_get-set_same}
-use Rattle.dary_heap.proofs.sift.Removing.{Removes}
-use Rattle.std.proofs.lemmas.List.{get_or_push}
+use Rattle.dary_heap.proofs.Common.{◌≡◌, ◌≢◌, ℕ, ◌+◌, ◌<◌, ◌≤◌, List, [], ◌∷◌, ◌++◌, length, sym, ◌∙◌, arith, Some, slice_get, slice_get_within, get_or_from_slice_get}
+use Rattle.dary_heap.proofs.Common.{length-append, IsPermutation, IsPermutation-append_comm}
+use Rattle.dary_heap.proofs.Order.{slice_get-append}
+use Rattle.dary_heap.proofs.Placing.{each_moved, key_gone, keys_less, keys_more, keys_moved, right_keys}
+use Rattle.dary_heap.proofs.sift.Removing.{swap_removes}
+use Rattle.dary_heap.specs.Places.{AreRightButAt, HaveKeys}
+use Rattle.std.proofs.lemmas.List.Sorted.{IsPermutation-swap_remove}
+use Rattle.std.specs.List.{swap_remove}
 use Rattle.indexed_heap.specs.Entries.{IsAbsent}
-use Rattle.indexed_heap.specs.Places.{AreRight, AreRightButAt}
-use Rattle.indexed_heap.proofs.Placing.{distinct, has_place}
+use Rattle.indexed_heap.specs.Places.{AreRight, key_of}
 
 -- an entry for a key that has none comes behind the others
-added : {X : Type 0} (entries : List (ℕ × X)) (places : List ℕ) (new : ℕ × X) → AreRight entries places → IsAbsent new.0 entries → new.0 < length places →
-    AreRight (entries ++ new ∷ []) (set places new.0 (length entries))
-added entries places new h absent room = record {
-  right = λ i entry there. elim (cases_lt i (length entries)) [
-    | inl before ↦
-        let was = sym (slice_get-append entries (new ∷ []) i before) ∙ there in
-        slice_get-set_other places new.0 entry.0 (length entries) (absent.none i entry was) ∙ h.right i entry was
-    | inr past ↦
-        let inside : i < length (entries ++ new ∷ []) = slice_get_within (entries ++ new ∷ []) i entry there in
-        let last : i ≡ length entries = omega (arith, length-append entries (new ∷ [])) in
-        let here = slice_get-get_or (entries ++ new ∷ []) i new inside in
-        let new_is : get_or (entries ++ new ∷ []) i new ≡ new = get_or_push entries new new i (sym last) in
-        let is : entry ≡ new = (cc) in
-        ap (λ (s : ℕ × _). slice_get (set places new.0 (length entries)) s.0) is ∙ slice_get-set_same places new.0 (length entries) room ∙ ap Some (sym last)
-  ];
-}
+module _ {X : Type 0} (entries : List (ℕ × X)) (places : List ℕ) (new : ℕ × X) (h : AreRight entries places) where
+  pub added_keys : IsAbsent new.0 entries → new.0 < length places → HaveKeys key_of (length places) (entries ++ new ∷ [])
+  added_keys absent room = keys_moved key_of (new ∷ entries) (entries ++ new ∷ []) (IsPermutation-append_comm (new ∷ []) entries) (keys_more key_of new entries (right_keys key_of h) room absent.none)
 
--- its place isn't written yet
-pub added_but_at : {X : Type 0} (entries : List (ℕ × X)) (places : List ℕ) (new : ℕ × X) → AreRight entries places → IsAbsent new.0 entries → new.0 < length places →
-    AreRightButAt (length entries) (entries ++ new ∷ []) places
-added_but_at entries places new h absent room =
-    let put : get_or (entries ++ new ∷ []) (length entries) new ≡ new = get_or_push entries new new (length entries) refl in
-    record {
-      entry = new;
-      there = slice_get-get_or (entries ++ new ∷ []) (length entries) new (omega (arith, length-append entries (new ∷ []))) ∙ ap Some put;
-      inside = room;
-      right = added entries places new h absent room;
+  -- its place isn't written yet
+  pub added_but_at : AreRightButAt key_of (length entries) (entries ++ new ∷ []) places
+  added_but_at = record {
+    elsewhere = λ i entry apart there.
+        let before : i < length entries = omega (arith, apart, slice_get_within (entries ++ new ∷ []) i entry there, length-append entries (new ∷ [])) in
+        h.right i entry (sym (slice_get-append entries (new ∷ []) i before) ∙ there);
+  }
+
+module _ {X : Type 0} (xs : List (ℕ × X)) (places : List ℕ) (at : ℕ) (gone : ℕ × X) (was : slice_get xs at ≡ Some gone) where
+  abbrev left : List (ℕ × X)
+  left = swap_remove xs at gone
+
+  pub left_len : length left + 1 ≡ length xs
+  left_len = (swap_removes xs at gone (slice_get_within xs at gone was)).len
+
+  module _ (h : AreRight xs places) where
+    pub left_keys : HaveKeys key_of (length places) left
+    left_keys =
+        let taken = IsPermutation-swap_remove xs at gone (slice_get_within xs at gone was) (sym (get_or_from_slice_get xs at gone gone was)) in
+        keys_less key_of gone left (keys_moved key_of xs (gone ∷ left) taken (right_keys key_of h))
+
+    -- the place of the entry that moved isn't written yet
+    pub left_but_at : AreRightButAt key_of at left places
+    left_but_at = record {
+      elsewhere = λ i entry apart there.
+          let moves = swap_removes xs at gone (slice_get_within xs at gone was) in
+          h.right i entry (sym (moves.others i apart (slice_get_within left i entry there)) ∙ there);
     }
 
-module _ {X : Type 0} (xs ys : List (ℕ × X)) (places : List ℕ) (at : ℕ) (h : AreRight xs places) (r : Removes xs ys at) where
-  -- the place of the entry that moved isn't written yet
-  moved_has_place : (x : ℕ × X) → at < length ys → slice_get ys at ≡ Some x → x.0 < length places
-  moved_has_place x inside x_is = has_place h (length xs - 1) x (sym (r.moved inside) ∙ x_is)
+    -- or it was the last
+    pub left_right : length left ≤ at → AreRight left places
+    left_right past = record { right = λ i entry there. left_but_at.elsewhere i entry (λ is. omega (arith, is, past, slice_get_within left i entry there)) there }
 
-  moved_right : (x : ℕ × X) → at < length ys → slice_get ys at ≡ Some x → AreRight ys (set places x.0 at)
-  moved_right x inside x_is = record {
-    right = λ i entry there. elim (cases_eq i at) [
-      | inl here ↦
-          let held : slice_get ys at ≡ Some entry = subst (λ (k : ℕ). slice_get ys k ≡ Some entry) here there in
-          let is : entry ≡ x = (cc) in
-          ap (λ (s : ℕ × X). slice_get (set places x.0 at) s.0) is ∙ slice_get-set_same places x.0 at (moved_has_place x inside x_is) ∙ ap Some (sym here)
-      | inr apart ↦
-          let low : i < length ys = slice_get_within ys i entry there in
-          let was : slice_get xs i ≡ Some entry = sym (r.others i apart low) ∙ there in
-          let other : entry.0 ≢ x.0 = λ same. absurd (let last : i ≡ length xs - 1 = distinct h i (length xs - 1) entry x was (sym (r.moved inside) ∙ x_is) same in omega (arith, r.len)) in
-          slice_get-set_other places x.0 entry.0 at other ∙ h.right i entry was
-    ];
-  }
+-- of the key of an entry that was taken out no entry is left
+pub no_more : {X : Type 0} (old new : List (ℕ × X)) (places : List ℕ) (gone : ℕ × X) → AreRight old places → IsPermutation old (gone ∷ new) → IsAbsent gone.0 new
+no_more old new places gone h bag = record { none = key_gone key_of gone new (keys_moved key_of old (gone ∷ new) bag (right_keys key_of h)) }
 
-  pub moved_but_at : at < length ys → AreRightButAt at ys places
-  moved_but_at inside =
-      let x = read ys at inside in
-      record { entry = x.0; there = x.1; inside = moved_has_place x.0 inside x.1; right = moved_right x.0 inside x.1 }
-
-  -- or it was the last
-  pub last_right : length ys ≤ at → AreRight ys places
-  last_right past = record {
-    right = λ i entry there. let low : i < length ys = slice_get_within ys i entry there in h.right i entry (sym (r.others i (omega arith) low) ∙ there);
-  }
-
--- of the key that was at the place no entry is left
-module _ {X : Type 0} (xs ys : List (ℕ × X)) (places : List ℕ) (at : ℕ) (h : AreRight xs places) (r : Removes xs ys at) (gone : ℕ × X) (was : slice_get xs at ≡ Some gone) where
-  pub no_more : IsAbsent gone.0 ys
-  no_more = record {
-    none = λ i entry there same.
-        let low : i < length ys = slice_get_within ys i entry there in
-        elim (cases_eq i at) [
-          | inl here ↦
-              let inside : at < length ys = omega arith in
-              let held : slice_get ys at ≡ Some entry = subst (λ (k : ℕ). slice_get ys k ≡ Some entry) here there in
-              let last : length xs - 1 ≡ at = distinct h (length xs - 1) at entry gone (sym (r.moved inside) ∙ held) was same in
-              absurd (omega (arith, r.len))
-          | inr apart ↦ apart (distinct h i at entry gone (sym (r.others i apart low) ∙ there) was same)
-        ];
-  }
-
--- nor after moves
+-- what is absent is so after moves
 pub still_absent : {X : Type 0} (key : ℕ) (ys zs : List (ℕ × X)) → IsPermutation ys zs → IsAbsent key ys → IsAbsent key zs
-still_absent key ys zs same h = record {
-  none = λ i entry there.
-      let in' : Contains zs entry = (i, slice_get_within zs i entry there, get_or_from_slice_get zs i entry entry there) in
-      let before = Contains-permutation zs ys entry (IsPermutation-sym ys zs same) in' in
-      h.none before.0 entry (slice_get-get_or ys before.0 entry before.1 ∙ ap Some before.2);
-}
+still_absent {X} key ys zs same h = record { none = each_moved (λ (entry : ℕ × X). key_of entry ≢ key) ys zs same h.none }

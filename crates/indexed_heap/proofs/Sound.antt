@@ -8,7 +8,7 @@ use Rattle.indexed_heap.proofs.Placing.{distinct}
 
 module _ {T : Type 0} {cmp : T → T → Ordering} (D : ℕ) where
   pub sound : (entries : List (ℕ × T)) (places : List ℕ) → IsHeapOrdered (by_item cmp) D entries → AreRight entries places → AreSound cmp D entries
-  sound entries places ordered right = record { distinct = record { once = distinct right }; ordered = ordered }
+  sound entries places ordered right = record { distinct = distinct right; ordered = ordered }
 
   -- the first entry has a greatest item
   pub greatest : IsTotalOrder cmp → (entries : List (ℕ × T)) (entry : ℕ × T) → IsHeapOrdered (by_item cmp) D entries → slice_get entries 0 ≡ Some entry → IsGreatest (by_item cmp) entries entry

@@ -1,8 +1,10 @@
 use Rattle.dary_heap.proofs.Common.{inl, inr, refl, sym, ◌∙◌, arith, IsPermutation-refl}
 use Rattle.dary_heap.proofs.Order.{below_root}
+use Rattle.dary_heap.proofs.Placing.{went_down}
 use Rattle.dary_heap.proofs.sift.Parts.{replaced}
 use Rattle.dary_heap.proofs.sift.Sorting.{but_last_is}
-use Rattle.dary_heap_c.proofs.Placing.{bag_behind, comes_last, gives_place, none_there, one_less, others_stay, removed, went_down}
+use Rattle.dary_heap_c.proofs.Placing.{bag_behind, comes_last, gives_place, none_there, one_less, others_stay, removed, rights}
+use Rattle.dary_heap_c.specs.Places.{value_of}
 use Rattle.dary_heap_c.proofs.moves.pop_keyed.Goals as goal
 
 pub returns-then-end-ne0-clause-bag : goal.returns-then-end-ne0-clause-bag
@@ -26,10 +28,10 @@ pub returns-then-end-ne0-clause-rights : goal.returns-then-end-ne0-clause-rights
 returns-then-end-ne0-clause-rights g c =
     let xs = c.args.entries.now in let rest = c.in-Some.rest.now in
     let sifted = c.sift_to_bottom_with-stop in
-    let went = went_down g.row.D sifted.result 0 rest sifted.new.items c.note.new.places c.write_path.new.places sifted.ensures.bag c.write_path.ensures.right c.write_path.ensures.others
-    sifted.ensures.within sifted.ensures.path in
+    let went = went_down value_of g.row.D sifted.result 0 rest sifted.new.items sifted.ensures.within sifted.ensures.path in
+    let along = rights g.row.D sifted.result 0 0 rest sifted.new.items c.note.new.places c.write_path.new.places sifted.ensures.bag went c.write_path.ensures.right c.write_path.ensures.others in
     removed xs rest c.in-Some.popped.now 0 (omega arith) (sym c.swap.ensures.after ∙ c.in-Some.ensures.cases.0) sifted.new.items sifted.ensures.bag c.args.places.now c.write_path.new.places
-    (rw c.note.ensures at went)
+    (rw c.note.ensures at along)
 
 pub returns-else-end-ne0-clause-rights : goal.returns-else-end-ne0-clause-rights
 returns-else-end-ne0-clause-rights g c =

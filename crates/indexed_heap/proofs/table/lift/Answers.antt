@@ -1,9 +1,10 @@
 use Rattle.dary_heap.proofs.Common.{◌≡◌, ◌<◌, ℕ, ◌∷◌, Some, inl, length, set, refl, sym, ◌∙◌, subst, arith, slice_get_within, get_or_from_slice_get, Greater, IsPermutation, length-set}
 use Rattle.dary_heap.proofs.Order.{slice_get-set_same}
+use Rattle.dary_heap.proofs.Placing.{right_but_at, right_keys, went_up}
 use Rattle.dary_heap.proofs.Path.{GoesTo-carries, GoesUp-le, GoesUpBy-above}
+use Rattle.indexed_heap.specs.Places.{key_of}
 use Rattle.indexed_heap.proofs.Changing.{entry_is}
-use Rattle.indexed_heap.proofs.Placing.{went_up}
-use Rattle.indexed_heap.proofs.Raising.{same_key_but_at}
+use Rattle.indexed_heap.proofs.Raising.{same_key}
 use Rattle.indexed_heap.proofs.table.lift.Goals as goal
 
 pub write_path-requires-clause-above : goal.write_path-requires-clause-above
@@ -13,10 +14,12 @@ write_path-requires-clause-above g c =
 
 pub write_path-requires-clause-right : goal.write_path-requires-clause-right
 write_path-requires-clause-right g c =
-    let xs = c.args.entries.now.items in let at = c.args.at in
+    let xs = c.args.entries.now.items in let at = c.args.at in let x : ℕ × g.row.T.Denot = (c.args.key, c.args.item) in
     let there = c.requires.there in
-    let put = same_key_but_at xs c.args.places.now at there.entry (c.args.key, c.args.item) (slice_get_within xs at there.entry there.there) there.there (sym there.has) c.requires.right in
-    rw c.as_slice.ensures.items (went_up g.row.D at c.in-Ok.stop (set xs at (c.args.key, c.args.item)) c.raise_at_returning_place.new.self.items c.args.places.now put c.in-Ok.ensures.path)
+    let inside : at < length xs = slice_get_within xs at there.entry there.there in
+    let put = same_key xs c.args.places.now at there.entry x inside there.there (sym there.has) c.requires.right in
+    rw c.as_slice.ensures.items (went_up key_of g.row.D at c.in-Ok.stop (set xs at x) c.raise_at_returning_place.new.self.items (omega (arith, inside, length-set xs at x)) c.in-Ok.ensures.path
+    (right_keys key_of put) (right_but_at key_of at put))
 
 pub returns-clause-raised : goal.returns-clause-raised
 returns-clause-raised g c =

@@ -17,7 +17,7 @@ returns-in-Some-clause-map g c =
     let found = rw c.as_slice.ensures.items at c.in-Some.ensures.found in
     let entry = get_or xs at c.index-as_slice-at.result in
     let there = slice_get-get_or xs at c.index-as_slice-at.result (slice_get_within xs at found.entry found.there) in
-    rw (← c.self.view_is) (rw c.as_slice-in-Some.ensures.items (sym (item_of-has c.args.key xs entry.1 (record { once = distinct c.self.invariant }) (holds xs at c.args.key entry found there))))
+    rw (← c.self.view_is) (rw c.as_slice-in-Some.ensures.items (sym (item_of-has c.args.key xs entry.1 (distinct c.self.invariant) (holds xs at c.args.key entry found there))))
 
 pub returns-in-None-clause-map : goal.returns-in-None-clause-map
 returns-in-None-clause-map g c = rw (← c.self.view_is) (sym (item_of-absent c.args.key c.self.inside.entries.items (rw c.as_slice.ensures.items at c.in-None.ensures.none)))

@@ -53,7 +53,7 @@ returns-in_default-clause-roomy g c = rw (← c.self.view_is) (no_entry (rw c.as
 
 pub returns-clause-given : goal.returns-clause-given
 returns-clause-given g c =
-    rw (← c.self.view_is) (Gets-given c.args.key c.args.item c.self.inside.entries.items c.change.new.entries.items (Some c.change.result) c.change.ensures.gets (record { once = distinct c.self.invariant }))
+    rw (← c.self.view_is) (Gets-given c.args.key c.args.item c.self.inside.entries.items c.change.new.entries.items (Some c.change.result) c.change.ensures.gets (distinct c.self.invariant))
 
 pub returns-clause-counted : goal.returns-clause-counted
 returns-clause-counted g c =

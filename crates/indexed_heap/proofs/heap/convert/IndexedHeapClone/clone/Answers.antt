@@ -1,33 +1,33 @@
-use Rattle.dary_heap.proofs.Common.{◌≡◌, ℕ, List, [], length, sym, ap, ◌∙◌, arith, IsPermutation-refl}
+use Rattle.dary_heap.proofs.Common.{◌≡◌, ℕ, [], length, sym, ap, ◌∙◌, arith, IsPermutation-refl}
 use Rattle.dary_heap.proofs.Order.{none_ordered}
+use Rattle.dary_heap.proofs.Placing.{keys_moved, right_keys}
 use Rattle.dary_heap.proofs.heap.Cloning.{clones_same}
 use Rattle.dary_heap.proofs.sift.Written.{none_counted}
 use Rattle.std.proofs.lemmas.Bool.{eqb-true}
 use Rattle.indexed_heap.specs.Entries.{Indexed}
-use Rattle.indexed_heap.specs.Places.{AreRight}
+use Rattle.dary_heap.specs.Places.{HaveKeys}
+use Rattle.indexed_heap.specs.Places.{key_of}
 use Rattle.indexed_heap.proofs.Copying.{clones_right}
-use Rattle.indexed_heap.proofs.Placing.{distinct, has_place, moved_right, no_entries}
+use Rattle.indexed_heap.proofs.Placing.{no_entries}
 use Rattle.indexed_heap.proofs.heap.convert.IndexedHeapClone.clone.Goals.{In_ok-entries}
 use Rattle.indexed_heap.proofs.heap.convert.IndexedHeapClone.clone.Given.{Over}
 use Rattle.indexed_heap.proofs.heap.convert.IndexedHeapClone.clone.Goals as goal
 
--- the table is copied as it is, and some table as long is right for the copy
-some_right : (g : Over) (c : In_ok-entries g) → (ps : List ℕ) × (length ps ≡ length c.in_ok-places.places.items) × AreRight c.in_ok-entries.entries.items ps
-some_right g c =
+-- the table is copied as it is, and has a place for each key of the copy
+keys : (g : Over) (c : In_ok-entries g) → HaveKeys key_of (length c.in_ok-places.places.items) c.in_ok-entries.entries.items
+keys g c =
     let copy = c.in_ok-entries.ensures.cases in
     let same : c.in_ok-places.places.items ≡ c.self.inside.places.items = clones_same (λ (x y : ℕ). y ≡ x) c.self.inside.places.items c.in_ok-places.places.items (λ x y in' h. h) c.in_ok-places.ensures.cases.0 in
-    moved_right copy.items c.in_ok-entries.entries.items c.in_ok-places.places.items copy.built.bag
-    (clones_right g.T.Clone.is_clone c.self.inside.entries.items copy.items c.in_ok-places.places.items copy.cloned (rw same c.self.invariant))
+    keys_moved key_of copy.items c.in_ok-entries.entries.items copy.built.bag
+    (right_keys key_of (clones_right g.T.Clone.is_clone c.self.inside.entries.items copy.items c.in_ok-places.places.items copy.cloned (rw same c.self.invariant)))
 
 pub write_places-requires-clause-distinct : goal.write_places-requires-clause-distinct
 write_places-requires-clause-distinct g c =
-    rw c.as_slice.ensures.items record { once = distinct (some_right g (goal.at.write_places-requires-clause-distinct g c).In_ok-entries).2 }
+    rw c.as_slice.ensures.items record { once = (keys g (goal.at.write_places-requires-clause-distinct g c).In_ok-entries).distinct }
 
 pub write_places-requires-clause-inside : goal.write_places-requires-clause-inside
-write_places-requires-clause-inside g c = λ i entry there.
-    let some = some_right g (goal.at.write_places-requires-clause-inside g c).In_ok-entries in
-    let inside = has_place some.2 i entry (rw c.as_slice.ensures.items at there) in
-    omega (arith, inside, some.1, ap length c.as_mut_slice.ensures.value)
+write_places-requires-clause-inside g c =
+    rw (c.as_slice.ensures.items, c.as_mut_slice.ensures.value) (keys g (goal.at.write_places-requires-clause-inside g c).In_ok-entries).below
 
 pub returns : goal.returns
 returns g c =
