@@ -63,6 +63,7 @@ module _ {X : Type 0} (key : X → ℕ) where
       below : (i : ℕ) (item : X) → slice_get (x ∷ xs) i ≡ Some item → key item < limit
       below zero item there = let is : x ≡ item = (cc) in subst (λ k. key k < limit) is inside
       below (suc i) item there = h.below i item there
+
       distinct : (i j : ℕ) (a b : X) → slice_get (x ∷ xs) i ≡ Some a → slice_get (x ∷ xs) j ≡ Some b → key a ≡ key b → i ≡ j
       distinct zero zero a b there here same = refl
       distinct zero (suc j) a b there here same = let is : x ≡ a = (cc) in absurd (none j b here (sym same ∙ ap key (sym is)))

@@ -129,7 +129,7 @@ module _ (entries : List (ℕ × (ℕ × ℕ))) (names : All HasItsName entries)
         in_order = in_their_order xs first given.descending;
         none_before = All-mapped (λ timer. All (IsBefore timer) (map named rest)) named xs (λ x in'.
             All-mapped (IsBefore (named x)) named rest (λ y there.
-                comes_after x y (All-contains HasItsName xs x first in') (All-contains HasItsName rest y last there) (given.none_greater x y in' there)));
+            comes_after x y (All-contains HasItsName xs x first in') (All-contains HasItsName rest y last there) (given.none_greater x y in' there)));
         count = length-map xs named ∙ count ∙ ap (min most) (sym (length-map entries named));
       }
 
