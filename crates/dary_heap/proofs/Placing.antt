@@ -9,7 +9,8 @@ use Rattle.dary_heap.specs.Path.{GoesTo, GoesUp, IsAbove, IsOnPath}
 use Rattle.dary_heap.specs.Places.{AreRight, AreRightButAt, AreRightOffPath, HaveKeys}
 
 -- what holds of each item holds when they have moved
-pub each_moved : {X : Type 0} (P : X → Type 0) (xs ys : List X) → IsPermutation xs ys → ((i : ℕ) (item : X) → slice_get xs i ≡ Some item → P item) → (i : ℕ) (item : X) → slice_get ys i ≡ Some item → P item
+pub each_moved : {X : Type 0} (P : X → Type 0) (xs ys : List X) → IsPermutation xs ys → ((i : ℕ) (item : X) → slice_get xs i ≡ Some item → P item) →
+    (i : ℕ) (item : X) → slice_get ys i ≡ Some item → P item
 each_moved P xs ys same h i item there =
     let was = Contains-permutation ys xs item (IsPermutation-sym xs ys same) (i, slice_get_within ys i item there, get_or_from_slice_get ys i item item there) in
     h was.0 item (slice_get-get_or xs was.0 item was.1 ∙ ap Some was.2)
@@ -95,7 +96,8 @@ module _ {X : Type 0} (key : X → ℕ) where
     noted_last ends = record { right = λ i item here. noted i item (λ apart on. apart (lone_on_path D at high i ends on)) here }
 
   module _ (D low high : ℕ) (xs ys : List X) {places : List ℕ} where
-    off_path : (from : ℕ) → IsOnPath D low high from → ((i : ℕ) → IsOnPath D low high i ⊎ (slice_get ys i ≡ slice_get xs i)) → AreRightButAt key from xs places → AreRightOffPath key D low high ys places
+    off_path : (from : ℕ) → IsOnPath D low high from → ((i : ℕ) → IsOnPath D low high i ⊎ (slice_get ys i ≡ slice_get xs i)) → AreRightButAt key from xs places →
+        AreRightOffPath key D low high ys places
     off_path from on still h = record {
       elsewhere = λ i item off here. elim (still i) [
         | inl along ↦ absurd (off along)
@@ -104,27 +106,37 @@ module _ {X : Type 0} (key : X → ℕ) where
     }
 
     -- an item went up or down, and its own place was any: the table is right off the path
-    pub went_up : {limit : ℕ} → low < length xs → GoesUp D low high xs ys → HaveKeys key limit xs → AreRightButAt key low xs places → HaveKeys key limit ys × AreRightOffPath key D low high ys places
+    pub went_up : {limit : ℕ} → low < length xs → GoesUp D low high xs ys → HaveKeys key limit xs → AreRightButAt key low xs places →
+        HaveKeys key limit ys × AreRightOffPath key D low high ys places
     went_up inside goes keys h =
         let on : IsOnPath D low high low = record { above_low = record { levels = 0; there = refl }; below_high = GoesUpBy-above D goes.levels low high xs ys goes.way } in
         (keys_moved xs ys (GoesUp-permutation D low high xs ys inside goes) keys, off_path low on (on_path_or_still D low high xs ys inside goes) h)
 
-    pub went_down : {limit : ℕ} → low < length ys → GoesUp D low high ys xs → HaveKeys key limit xs → AreRightButAt key high xs places → HaveKeys key limit ys × AreRightOffPath key D low high ys places
+    pub went_down : {limit : ℕ} → low < length ys → GoesUp D low high ys xs → HaveKeys key limit xs → AreRightButAt key high xs places →
+        HaveKeys key limit ys × AreRightOffPath key D low high ys places
     went_down inside goes keys h =
         let on : IsOnPath D low high high = record { above_low = GoesUpBy-above D goes.levels low high ys xs goes.way; below_high = record { levels = 0; there = refl } } in
-        let still : (i : ℕ) → IsOnPath D low high i ⊎ (slice_get ys i ≡ slice_get xs i) = λ i. elim (on_path_or_still D low high ys xs inside goes i) [ inl along ↦ inl along | inr stays ↦ inr (sym stays) ] in
-        (keys_moved xs ys (IsPermutation-sym ys xs (GoesUp-permutation D low high ys xs inside goes)) keys, off_path high on still h)
+        let still = on_path_or_still D low high ys xs inside goes in
+        let same = IsPermutation-sym ys xs (GoesUp-permutation D low high ys xs inside goes) in
+        (keys_moved xs ys same keys, off_path high on (λ i. elim (still i) [ inl along ↦ inl along | inr stays ↦ inr (sym stays) ]) h)
 
   -- either way, the path is that between the two places
   module _ (D at to low high : ℕ) (xs ys : List X) (lower : low ≡ max at to) (higher : high ≡ min at to) (goes : GoesTo D at to xs ys) where
+    falls : to ≤ at → (low ≡ at) × (high ≡ to)
+    falls le = (omega (arith, lower, le), omega (arith, higher, le))
+
+    climbs : at ≤ to → (low ≡ to) × (high ≡ at)
+    climbs le = (omega (arith, lower, le), omega (arith, higher, le))
+
     pub went_above : IsAbove D high low
     went_above = elim goes [
-      | inl up ↦ (let le = GoesUp-le D at to up in let l : low ≡ at = omega (arith, lower, le) in let u : high ≡ to = omega (arith, higher, le) in rw (l, u) (GoesUpBy-above D up.levels at to xs ys up.way))
-      | inr down ↦ (let le = GoesUp-le D to at down in let l : low ≡ to = omega (arith, lower, le) in let u : high ≡ at = omega (arith, higher, le) in rw (l, u) (GoesUpBy-above D down.levels to at ys xs down.way))
+      | inl up ↦ (let is = falls (GoesUp-le D at to up) in rw (is.0, is.1) (GoesUpBy-above D up.levels at to xs ys up.way))
+      | inr down ↦ (let is = climbs (GoesUp-le D to at down) in rw (is.0, is.1) (GoesUpBy-above D down.levels to at ys xs down.way))
     ]
 
-    pub went : {limit : ℕ} {places : List ℕ} → at < length xs → to < length ys → HaveKeys key limit xs → AreRightButAt key at xs places → HaveKeys key limit ys × AreRightOffPath key D low high ys places
+    pub went : {limit : ℕ} {places : List ℕ} → at < length xs → to < length ys → HaveKeys key limit xs → AreRightButAt key at xs places →
+        HaveKeys key limit ys × AreRightOffPath key D low high ys places
     went inside stops keys h = elim goes [
-      | inl up ↦ (let le = GoesUp-le D at to up in let l : low ≡ at = omega (arith, lower, le) in let u : high ≡ to = omega (arith, higher, le) in rw (l, u) (went_up D at to xs ys inside up keys h))
-      | inr down ↦ (let le = GoesUp-le D to at down in let l : low ≡ to = omega (arith, lower, le) in let u : high ≡ at = omega (arith, higher, le) in rw (l, u) (went_down D to at xs ys stops down keys h))
+      | inl up ↦ (let is = falls (GoesUp-le D at to up) in rw (is.0, is.1) (went_up D at to xs ys inside up keys h))
+      | inr down ↦ (let is = climbs (GoesUp-le D to at down) in rw (is.0, is.1) (went_down D to at xs ys stops down keys h))
     ]

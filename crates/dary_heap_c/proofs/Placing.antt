@@ -41,7 +41,8 @@ have_keys {place = place} xs places apart key h = record {
 -- items moved along a path, and their places are written
 pub rights : (D low high from : ℕ) (xs ys : List Entry) (before after : List ℕ) → IsPermutation xs ys
     → (HaveKeys (length before) xs → AreRightButAt value_of from xs before → HaveKeys (length before) ys × AreRightOffPath D low high ys before)
-    → (HaveKeys (length before) ys → AreRightOffPath D low high ys before → AreRight ys after) → ((value : ℕ) → IsFree value ys → slice_get after value ≡ slice_get before value) → Rights from xs ys before after
+    → (HaveKeys (length before) ys → AreRightOffPath D low high ys before → AreRight ys after)
+    → ((value : ℕ) → IsFree value ys → slice_get after value ≡ slice_get before value) → Rights from xs ys before after
 rights D low high from xs ys before after same went right others = record {
   right = λ apart key h. let now = went (have_keys xs before apart key h) h in right now.0 now.1;
   others = λ value free. others value (stays_free xs ys same free);

@@ -10,7 +10,8 @@ use Rattle.indexed_heap.proofs.table.change.Goals as goal
 pub write_path-requires-clause-above : goal.write_path-requires-clause-above
 write_path-requires-clause-above g c =
     let replaced = c.replace_at_returning_place-old in
-    went_above key_of g.row.D c.args.at replaced.result.1 c.max.result c.min.result (set c.args.entries.now.items c.args.at (c.args.key, c.args.item)) replaced.new.self.items c.max.ensures c.min.ensures replaced.ensures.path
+    went_above key_of g.row.D c.args.at replaced.result.1 c.max.result c.min.result (set c.args.entries.now.items c.args.at (c.args.key, c.args.item)) replaced.new.self.items
+    c.max.ensures c.min.ensures replaced.ensures.path
 
 pub write_path-requires-clause-right : goal.write_path-requires-clause-right
 write_path-requires-clause-right g c =

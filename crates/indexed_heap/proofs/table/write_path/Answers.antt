@@ -33,4 +33,5 @@ pub returns : goal.returns
 returns g c =
     let before = c.loop-at.invariant in
     let entries = c.args.entries.now in let at = c.loop-at.at in
-    noted_last key_of g.row.D entries c.loop-at.places at c.args.high _ (slice_get-get_or entries at c.index-entries-at-2.result before.inside) before.right.0 before.right.1 (omega (arith, c.loop-at-test.false))
+    noted_last key_of g.row.D entries c.loop-at.places at c.args.high _ (slice_get-get_or entries at c.index-entries-at-2.result before.inside) before.right.0 before.right.1
+    (omega (arith, c.loop-at-test.false))
