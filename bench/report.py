@@ -44,6 +44,9 @@ NUMBERS = {
 KINDS = {"entries": "16 bytes", "records": "64 bytes", "strings": "strings"}
 CALLS = {"build": "build", "push": "push", "pop": "pop", "churn": "push, then pop"}
 WIDE = {f"{call}_{kind}": f"{name}, {of}" for kind, of in KINDS.items() for call, name in CALLS.items()}
+# The items in order, with nothing taken out, and the heaps of that table: the first pops from a copy.
+IN_ORDER = {"iter_sorted_ten": "ten", "iter_sorted_all": "all"}
+BESIDE_IN_ORDER = {"crate": "crate", "boost": "boost"}
 # The rows of the first table, with the workloads that a mean is of.
 MEANS = {
     "numbers, without `retain`": [workload for workload in NUMBERS if workload != "retain"],
@@ -57,7 +60,7 @@ ARITIES = [2, 3, 4, 8]
 SIZES = [10**3, 10**5, 10**6]
 # The workloads of README, with the sizes there, and those of the picture by arity.
 SHOWN = ["pop", "push_random", "build"]
-SHOWN_SIZES = [10**3, 10**5, 10**7]
+SHOWN_SIZES = [10**3, 10**5, 10**6, 10**7]
 DRAWN = ["push_random", "pop", "churn", "build"]
 # The size of which comparisons are shown.
 COMPARED = 10**6
@@ -128,9 +131,10 @@ class Report:
 
     def missing(self):
         """The lines that aren't there. A workload has each of its sizes at all arities."""
-        for workload in [*NUMBERS, *WIDE, SEARCH]:
+        for workload in [*NUMBERS, *IN_ORDER, *WIDE, SEARCH]:
             sizes = {items for name, items, _ in self.lines if name == workload}
-            for items in sorted(sizes.union(SIZES, SHOWN_SIZES if workload in SHOWN else [])):
+            wanted = SIZES[:2] if workload in IN_ORDER else SHOWN_SIZES if workload in SHOWN else SIZES
+            for items in sorted(sizes.union(wanted)):
                 for arity in arities_of(workload):
                     if (workload, items, arity) not in self.lines:
                         yield f"{workload}, arity {arity}, {items} items"
@@ -242,6 +246,18 @@ def ratios(report, workloads):
     return table(heads, rows, words=2)
 
 
+def in_order(report):
+    """The nanoseconds of an item that is given in order, and the ratios."""
+    heads = ["", "of", *heads_of("ns")] + [head for name in BESIDE_IN_ORDER.values() for head in heads_of(name)]
+    rows = []
+    for workload, name in IN_ORDER.items():
+        for items, group in report.groups[workload].items():
+            cells = [fixed(line["here_ns"], 0) for line in group]
+            cells += [fixed(over(line, who), 4 if over(line, who) < 0.01 else 2) for who in BESIDE_IN_ORDER for line in group]
+            rows.append([name, power(items), *cells])
+    return table(heads, rows, words=2)
+
+
 def comparisons(report):
     """The comparisons an item."""
     groups = {NUMBERS[workload]: report.groups[workload][COMPARED] for workload in SHOWN}
@@ -304,6 +320,7 @@ BLOCKS = {
     "means by workload": lambda report: means(report, {name: [workload] for workload, name in NUMBERS.items()}),
     "numbers": lambda report: ratios(report, NUMBERS),
     "summary": summary,
+    "in order": in_order,
     "wider items": lambda report: ratios(report, WIDE),
     "summary of wider items": by_kind,
     "comparisons": comparisons,
@@ -329,9 +346,9 @@ def of_readme(report):
         for items in SHOWN_SIZES:
             two, four = (report.lines[workload, items, arity] for arity in (2, 4))
             times = [line[f"{who}_ns"] for who in AT_ARITIES for line in (two, four)]
-            times += [two["rattle_std_ns"], two["cpp_ns"]]
+            times += [two[f"{who}_ns"] for who in AT_TWO]
             rows.append([NUMBERS[workload], power(items), *(fixed(time, int(time < 10)) for time in times)])
-    return table([*heads, "std's `BinaryHeap`", "`std::priority_queue`"], rows, words=2)
+    return table([*heads, "Rattle's `BinaryHeap`", "Rust's", "`std::priority_queue`"], rows, words=2)
 
 
 def all_figures(report):
