@@ -1,8 +1,9 @@
-"""Repositories of some of the crates, and of a caller of them."""
+"""Repositories of some of the crates, and of a caller of them. As a command it lays crates out: workspaces.py FOLDER CRATE.."""
 import pathlib
 import re
 import shutil
 import subprocess
+import sys
 
 TOP = pathlib.Path(__file__).resolve().parent.parent
 CRATE = TOP / "crates/dary_heap"
@@ -62,3 +63,7 @@ def empty(crate):
 def rt(folder, *words):
     """Runs a command of `rt` in a folder."""
     return subprocess.run(["rt", *words], cwd=folder, capture_output=True, encoding="utf-8")
+
+
+if __name__ == "__main__":
+    lay_out(pathlib.Path(sys.argv[1]), *sys.argv[2:])

@@ -13,8 +13,8 @@ use std::alloc::{AllocError, Global};
 use std::{collections, mem};
 
 /// Adds a price. Fails if memory allocation fails, which happens only if there is no room for another, and nothing has
-/// changed then. `?` makes `AllocError` of the
-/// error of std's push; that of this heap's is the item, which `map_err` drops.
+/// changed then. `?` makes `AllocError` of the error of std's push; that of this heap's is the item, which `map_err`
+/// drops.
 pub fn add_price(prices: &mut BinaryHeap<u32>, price: u32) -> Result<(), AllocError>
     ensures bag { OnOk result (IsSameBag (price ∷ prices.old.items) prices.new.items) }
     ensures succeeds { length prices.old.items < prices.old.capacity → IsOk result }
@@ -129,7 +129,8 @@ pub fn as_std<T: Ord>(heap: BinaryHeap<T>) -> Vec<T>
     heap.into_vec()
 }
 
-/// Takes all items out of a heap, which is as a new one then. If it fails, nothing has changed.
+/// Takes all items out of a heap, which is as a new one then. If it fails, nothing has changed. Nothing is allocated, so
+/// it doesn't fail, but std's `try_take` doesn't promise that.
 pub fn take_all<T: Ord, const D: usize>(
     heap: &mut DaryHeap<T, D>,
 ) -> Result<DaryHeap<T, D>, AllocError>

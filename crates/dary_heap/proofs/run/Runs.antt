@@ -32,7 +32,7 @@ module _ {T P : Type 0} where
   sure_after-fewer : (few many : ℕ) (command : Command T P) (reply : Reply T) → few ≤ many → sure_after few command reply ≤ sure_after many command reply
   sure_after-fewer few many (machine.Push x) reply h = omega arith
   sure_after-fewer few many (machine.Reserve n) machine.Done h = omega arith
-  sure_after-fewer few many command reply h = search zero-le
+  sure_after-fewer few many command reply h = first_of (search, search zero-le)
 
 -- a run of a heap goes on by one command
 module _ {T P : Type 0} {cmp : T → T → Ordering} {calls : P → T → Bool → P → Type 0} {D : ℕ} where
@@ -65,7 +65,7 @@ module _ {T P : Type 0} where
   items_in-append : (xs ys : List (Command T P)) → items_in (xs ++ ys) ≡ items_in xs ++ items_in ys
   items_in-append [] ys = refl
   items_in-append (machine.Push x ∷ xs) ys = ap (λ zs. x ∷ zs) (items_in-append xs ys)
-  items_in-append (command ∷ xs) ys = simp (items_in-append xs ys, append_assoc)
+  items_in-append (command ∷ xs) ys = first_of (simp (items_in-append xs ys), simp (items_in-append xs ys, append_assoc))
 
   -- the items of one command are among those of all
   pub items_of_one : (before : List (Command T P)) (command : Command T P) (after : List (Command T P)) (x : T) → Contains (items_in (command ∷ [])) x →

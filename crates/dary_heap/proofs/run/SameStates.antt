@@ -5,7 +5,7 @@ use Rattle.dary_heap.proofs.{IsSameState, front, front_with, ℕ, zero, suc, fal
 use Rattle.dary_heap.proofs.{length_permutation, Retain, Extend, Drain, Done, ExtendRefused, Taken, Pops, PopsInTurn, IsJoined, Contains-first, IsGreatest-overtaken, IsGreatest-stays, alone}
 use Rattle.dary_heap.proofs.{not_greater-self}
 use Rattle.dary_heap.specs.Bag.{HasGreater}
-use Rattle.dary_heap.specs.Machine.{MayAnswer}
+use Rattle.dary_heap.specs.Machine.{MayAnswer, Pop, Ask, Len, Append, Clear, DrainSorted, Refused}
 
 -- a strictly greater value in one listing of a bag is one in every other
 pub HasGreater-same_bag : {X : Type 0} (cmp : X → X → Ordering) (xs ys : List X) (m : X) → IsSameBag xs ys → HasGreater cmp xs m → HasGreater cmp ys m
@@ -99,5 +99,15 @@ module _ {X P : Type 0} (cmp : X → X → Ordering) (calls : P → X → Bool �
   Step-same_state (Extend xs) ExtendRefused h = (h.0, h.1, h.2, h.3, joined h.0 h.4)
   Step-same_state (Drain k) (Taken taken) h = ((h.0.0, IsSameState-trans old' old h.0.0 (IsSameState-sym old old' from) h.0.1, h.0.2), none new new' to h.1)
   Step-same_state (Loan acts end) (Loaned (Some told)) h = (h.0, h.1, h.2, h.3, from.first ∙ h.4, listed _ h.5, h.6, ended h.2 h.3 end told.1 h.7)
-  Step-same_state command reply h =
-      first_of (search, search (rules, kept, joined, popped, in_turn, asked, none old old' from, none new new' to, some old old' from, length_permutation old old' from.bag))
+  Step-same_state Pop reply h = search (rules, popped, none old old' from, none new new' to)
+  Step-same_state (PopIf p) (Popped (Some m)) h = (popped m h.0, h.1)
+  Step-same_state (Ask p) reply h = search (rules, asked, kept, none old old' from, none new new' to)
+  Step-same_state Len reply h = search (rules, kept, length_permutation old old' from.bag)
+  Step-same_state (Extend xs) Done h = joined xs h
+  Step-same_state (Append other) reply h = search (rules, joined, kept)
+  Step-same_state Clear reply h = search (rules, none new new' to)
+  Step-same_state (Drain k) Refused h = (some old old' from h.0, h.1, kept h.2)
+  Step-same_state (DrainSorted k) reply h = search (rules, in_turn, none new new' to, kept, some old old' from)
+  Step-same_state (Loan acts end) (Loaned None) h = (none old old' from h.0, none new new' to h.1)
+  Step-same_state (Loan acts end) Refused h = (some old old' from h.0, h.1, kept h.2)
+  Step-same_state command reply h = first_of (search, search (rules, kept))
