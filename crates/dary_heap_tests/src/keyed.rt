@@ -1,6 +1,6 @@
 //! A call of each public function of `indexed_heap`, at concrete types. Tests of many calls are in parts, since the
 //! proof of two short functions takes less time than that of one that is twice as long.
-use crate::{Host, Tested};
+use crate::{Host, Tested, same};
 use dary_heap::shortest_path::{Edge, PathRefusal, shortest_path};
 use dary_heap::sift::{ByOrd, LeastFirst, Tally};
 use indexed_heap::shortest_path::{
@@ -13,10 +13,9 @@ use std::mem;
 #[test]
 fn entries_are_read_changed_and_removed_by_key(rt: HostRuntime) -> Tested {
     let mut heap = IndexedHeap::<u32, 4>::with_capacity(rt.alloc(), 2, 9)?;
-    assert_eq!(rt;
-        (heap.len(), heap.is_empty(), heap.key_capacity()),
-        (0, true, 9)
-    );
+    same(&rt, heap.len(), 0);
+    same(&rt, heap.is_empty(), true);
+    same(&rt, heap.key_capacity(), 9);
     inserts_and_raises(&rt, &mut heap)?;
     reads(&rt, &heap)?;
     removes_and_pops(&rt, &mut heap)
@@ -24,27 +23,31 @@ fn entries_are_read_changed_and_removed_by_key(rt: HostRuntime) -> Tested {
 
 /// Inserts 10 and then 50 at key 8, and 30 at key 6, which is raised to 60.
 fn inserts_and_raises(rt: &impl Host, heap: &mut IndexedHeap<u32, 4>) -> Tested {
-    let inserted = [heap.insert(8, 10), heap.insert(6, 30), heap.insert(8, 50)];
-    assert_eq!(rt; inserted, [Ok(None), Ok(None), Ok(Some(10))]);
-    for (item, raised) in [(20, false), (60, true)] {
-        assert_eq!(rt; heap.raise(6, item), Ok(raised));
-    }
-    assert_eq!(rt; heap.insert(usize::MAX, 1), Err(1));
+    same(rt, heap.insert(8, 10), Ok(None));
+    same(rt, heap.insert(6, 30), Ok(None));
+    same(rt, heap.insert(8, 50), Ok(Some(10)));
+    same(rt, heap.raise(6, 20), Ok(false));
+    same(rt, heap.raise(6, 60), Ok(true));
+    same(rt, heap.insert(usize::MAX, 1), Err(1));
     Ok(())
 }
 
 /// Reads these two entries.
 fn reads(rt: &impl Host, heap: &IndexedHeap<u32, 4>) -> Tested {
-    assert_eq!(rt; [heap.contains_key(8), heap.contains_key(7)], [true, false]);
-    assert_eq!(rt; heap.as_slice(), [(6, 60), (8, 50)].as_slice());
-    assert_eq!(rt; (heap.get(6), heap.peek()), (Some(&60), Some((6, &60))));
+    same(rt, heap.contains_key(8), true);
+    same(rt, heap.contains_key(7), false);
+    same(rt, heap.as_slice(), &[(6, 60), (8, 50)]);
+    same(rt, heap.get(6), Some(&60));
+    same(rt, heap.peek(), Some((6, &60)));
     Ok(())
 }
 
 /// Removes these two entries.
 fn removes_and_pops(rt: &impl Host, heap: &mut IndexedHeap<u32, 4>) -> Tested {
-    assert_eq!(rt; [heap.remove(8), heap.remove(8)], [Some(50), None]);
-    assert_eq!(rt; [heap.pop(), heap.pop()], [Some((6, 60)), None]);
+    same(rt, heap.remove(8), Some(50));
+    same(rt, heap.remove(8), None);
+    same(rt, heap.pop(), Some((6, 60)));
+    same(rt, heap.pop(), None);
     Ok(())
 }
 
@@ -56,11 +59,11 @@ fn the_least_comes_first_by_a_judge(rt: HostRuntime) -> Tested {
     heap.reserve(3, 5)?;
     assert!(rt; heap.capacity() >= 3);
     for (key, item) in [(1, 40), (4, 20), (2, 30)] {
-        assert_eq!(rt; heap.insert(key, item), Ok(None));
+        same(&rt, heap.insert(key, item), Ok(None));
     }
-    assert_eq!(rt; heap.judge().0.made(), 2);
+    same(&rt, heap.judge().0.made(), 2);
     for popped in [Some((4, 20)), None] {
-        assert_eq!(rt; heap.pop_if(|key, item| key == 4 && *item < 30), popped);
+        same(&rt, heap.pop_if(|key, item| key == 4 && *item < 30), popped);
     }
     heap.clear();
     assert!(rt; heap.is_empty());
@@ -72,7 +75,7 @@ fn the_least_comes_first_by_a_judge(rt: HostRuntime) -> Tested {
 fn entries_are_iterated_and_copied(rt: HostRuntime) -> Tested {
     let mut heap = IndexedHeap::<u32, 3, ByOrd>::new(rt.alloc());
     for (key, item) in [(1, 40), (4, 20), (2, 30)] {
-        assert_eq!(rt; heap.insert(key, item), Ok(None));
+        same(&rt, heap.insert(key, item), Ok(None));
     }
     sorts_a_copy(&rt, &heap)?;
     iterates_a_copy(&rt, &heap)?;
@@ -83,35 +86,38 @@ fn entries_are_iterated_and_copied(rt: HostRuntime) -> Tested {
 /// Takes a copy's entries in their order.
 fn sorts_a_copy(rt: &impl Host, heap: &IndexedHeap<u32, 3>) -> Tested {
     let mut sorted = heap.clone()?.into_iter_sorted().clone()?;
-    let first = [sorted.next(), sorted.next()];
-    assert_eq!(rt; first, [Some((1, 40)), Some((2, 30))]);
+    same(rt, sorted.next(), Some((1, 40)));
+    same(rt, sorted.next(), Some((2, 30)));
     Ok(())
 }
 
 /// Takes a copy's entries as they lie.
 fn iterates_a_copy(rt: &impl Host, heap: &IndexedHeap<u32, 3>) -> Tested {
     let mut entries = heap.clone()?.into_iter().clone()?;
-    let ends = [entries.next(), entries.next_back()];
-    assert_eq!(rt; ends, [Some((1, 40)), Some((2, 30))]);
+    same(rt, entries.next(), Some((1, 40)));
+    same(rt, entries.next_back(), Some((2, 30)));
     Ok(())
 }
 
 /// Reads the entries as they lie.
 fn iterates(rt: &impl Host, heap: &IndexedHeap<u32, 3>) -> Tested {
+    // (`same` would take both sides at one lifetime)
     assert_eq!(rt; Iter::<u32>::default().next(), None);
     let mut shown = heap.iter();
-    let ends = [shown.next(), shown.next_back()];
-    assert_eq!(rt; ends, [Some((1, &40)), Some((2, &30))]);
+    same(rt, shown.next(), Some((1, &40)));
+    same(rt, shown.next_back(), Some((2, &30)));
     Ok(())
 }
 
 /// Takes the entries out, and then the heap.
 fn drains_and_takes(rt: &impl Host, heap: &mut IndexedHeap<u32, 3>) -> Tested {
-    assert_eq!(rt; heap.drain().next(), Some((1, 40)));
-    assert_eq!(rt; (heap.is_empty(), heap.insert(4, 7)), (true, Ok(None)));
-    assert_eq!(rt; mem::try_take(heap)?.pop(), Some((4, 7)));
+    same(rt, heap.drain().next(), Some((1, 40)));
+    same(rt, heap.is_empty(), true);
+    same(rt, heap.insert(4, 7), Ok(None));
+    same(rt, mem::try_take(heap)?.pop(), Some((4, 7)));
+    same(rt, heap.len(), 0);
     let made = IndexedHeap::<u32, 3>::made_with(rt.alloc());
-    assert_eq!(rt; [made.len(), heap.len()], [0, 0]);
+    same(rt, made.len(), 0);
     Ok(())
 }
 
@@ -120,7 +126,7 @@ fn a_heap_is_copied_by_its_judge_and_gives_room_back(rt: HostRuntime) -> Tested 
     let mut heap = IndexedHeap::<u32, 4, _>::with_judge(rt.alloc(), LeastFirst(ByOrd::new()));
     heap.reserve(20, 50)?;
     for (key, item) in [(1, 40), (9, 10), (4, 20)] {
-        assert_eq!(rt; heap.insert(key, item), Ok(None));
+        same(&rt, heap.insert(key, item), Ok(None));
     }
     copies_by_its_judge(&rt, &heap)?;
     gives_room_back(&rt, &mut heap)
@@ -129,18 +135,21 @@ fn a_heap_is_copied_by_its_judge_and_gives_room_back(rt: HostRuntime) -> Tested 
 /// Takes a copy's entries in their order, the least first.
 fn copies_by_its_judge(rt: &impl Host, heap: &IndexedHeap<u32, 4, LeastFirst<ByOrd>>) -> Tested {
     let mut copy = heap.clone()?;
-    assert_eq!(rt; copy.pop(), Some((9, 10)));
+    same(rt, copy.pop(), Some((9, 10)));
     let mut sorted = copy.into_iter_sorted().clone()?;
-    assert_eq!(rt; (sorted.next(), sorted.len()), (Some((4, 20)), 1));
+    same(rt, sorted.next(), Some((4, 20)));
+    same(rt, sorted.len(), 1);
     Ok(())
 }
 
 /// Gives back the room for all but 10 and 30, and then all that isn't used.
 fn gives_room_back(rt: &impl Host, heap: &mut IndexedHeap<u32, 4, LeastFirst<ByOrd>>) -> Tested {
     heap.shrink_to(10, 30)?;
-    assert_eq!(rt; [heap.capacity(), heap.key_capacity()], [10, 30]);
+    same(rt, heap.capacity(), 10);
+    same(rt, heap.key_capacity(), 30);
     heap.shrink_to_fit()?;
-    assert_eq!(rt; [heap.capacity(), heap.key_capacity()], [3, 10]);
+    same(rt, heap.capacity(), 3);
+    same(rt, heap.key_capacity(), 10);
     Ok(())
 }
 
@@ -155,17 +164,15 @@ fn finds(
     let alloc = rt.alloc();
     assert!(rt; is_graph(graph));
     assert!(rt; start < graph.len());
-    assert_eq!(rt; shortest_path(alloc, graph, start, goal), answer);
-    assert_eq!(rt;
-        shortest_path_by_lowering(alloc, graph, start, goal),
-        answer
-    );
+    same(rt, shortest_path(alloc, graph, start, goal), answer);
+    let lowered = shortest_path_by_lowering(alloc, graph, start, goal);
+    same(rt, lowered, answer);
     let nodes = graph.len();
     let mut found = vec![in alloc; 0; nodes]?;
     let mut heap = CostHeap::<2>::with_judge(alloc, LeastFirst(ByOrd::new()));
     heap.reserve(nodes, nodes)?;
     let kept = shortest_path_by_lowering_within(graph, start, goal, &mut found, &mut heap);
-    assert_eq!(rt; kept.ok(), answer.ok());
+    same(rt, kept.ok(), answer.ok());
     Ok(())
 }
 

@@ -3,7 +3,7 @@
 ghost use Rattle.std.specs.Cmp.{back_total, int_cmp_total};
 ghost use Rattle.std.specs.Ordering.{int_cmp};
 
-use crate::{Host, Tested};
+use crate::{Host, Tested, same};
 use dary_heap::run::{Command, run};
 use dary_heap::sift::{
     Judge, Tally, build_with, fix_with, mend_with, pop_to_end_with, pop_with, push_with,
@@ -18,13 +18,13 @@ use std::cmp::Reverse;
 #[test]
 fn a_heap_comes_of_its_vector_and_of_an_iterator(rt: HostRuntime) -> Tested {
     let items = BinaryHeap::from([1, 2, 3].to_vec(rt.alloc())?).into_vec();
-    assert_eq!(rt; items.as_slice(), [3, 2, 1].as_slice());
+    same(&rt, items.as_slice(), &[3, 2, 1]);
     let mut heap = BinaryHeap::from_raw_vec(items);
     for answer in [Some(3), Some(2), Some(1), None] {
-        assert_eq!(rt; heap.pop(), answer);
+        same(&rt, heap.pop(), answer);
     }
     let heap: BinaryHeap<i32> = (1..4).collect(rt.alloc())?;
-    assert_eq!(rt; heap.as_slice(), [3, 2, 1].as_slice());
+    same(&rt, heap.as_slice(), &[3, 2, 1]);
     let heap: BinaryHeap<i32> = (0..0).collect(rt.alloc())?;
     assert!(rt; heap.is_empty());
     Ok(())
@@ -35,9 +35,9 @@ fn a_heap_comes_of_its_vector_and_of_an_iterator(rt: HostRuntime) -> Tested {
 fn a_clone_is_a_heap_of_its_own(rt: HostRuntime) -> Tested {
     let heap = BinaryHeap::from([1, 2, 3, 4, 5].to_vec(rt.alloc())?);
     let mut copy = heap.clone()?;
-    assert_eq!(rt; copy.as_slice(), [5, 4, 3, 1, 2].as_slice());
-    let both = (copy.pop(), heap.as_slice());
-    assert_eq!(rt; both, (Some(5), [5, 4, 3, 1, 2].as_slice()));
+    same(&rt, copy.as_slice(), &[5, 4, 3, 1, 2]);
+    same(&rt, copy.pop(), Some(5));
+    same(&rt, heap.as_slice(), &[5, 4, 3, 1, 2]);
     assert!(rt; BinaryHeap::<i32>::new(rt.alloc()).clone()?.is_empty());
     Ok(())
 }
@@ -48,7 +48,8 @@ fn a_clone_is_a_sorted_iterator_of_its_own(rt: HostRuntime) -> Tested {
     let heap = BinaryHeap::from([1, 2, 3].to_vec(rt.alloc())?);
     let mut sorted = heap.clone()?.into_iter_sorted();
     let mut copy = sorted.clone()?;
-    assert_eq!(rt; [sorted.next(), copy.next()], [Some(3); 2]);
+    same(&rt, sorted.next(), Some(3));
+    same(&rt, copy.next(), Some(3));
     Ok(())
 }
 
@@ -57,9 +58,10 @@ fn a_clone_is_a_sorted_iterator_of_its_own(rt: HostRuntime) -> Tested {
 fn a_clone_is_an_iterator_of_its_own(rt: HostRuntime) -> Tested {
     let heap = BinaryHeap::from([1, 2, 3].to_vec(rt.alloc())?);
     let mut items = heap.into_iter();
-    assert_eq!(rt; items.next(), Some(3));
+    same(&rt, items.next(), Some(3));
     let mut copy = items.clone()?;
-    assert_eq!(rt; [items.next(), copy.next()], [Some(2); 2]);
+    same(&rt, items.next(), Some(2));
+    same(&rt, copy.next(), Some(2));
     Ok(())
 }
 
@@ -72,8 +74,8 @@ fn is_even(item: &i32) -> bool {
 fn a_pop_comes_if_the_predicate_returns_true(rt: HostRuntime) -> Tested {
     let mut heap = BinaryHeap::from([1, 2].to_vec(rt.alloc())?);
     for popped in [Some(2), None] {
-        assert_eq!(rt; heap.pop_if(is_even), popped);
-        assert_eq!(rt; heap.as_slice(), [1].as_slice());
+        same(&rt, heap.pop_if(is_even), popped);
+        same(&rt, heap.as_slice(), &[1]);
     }
     Ok(())
 }
@@ -82,15 +84,15 @@ fn a_pop_comes_if_the_predicate_returns_true(rt: HostRuntime) -> Tested {
 #[test]
 fn a_predicate_is_asked_about_each_item_in_order(rt: HostRuntime) -> Tested {
     let mut heap = OctonaryHeap::from([-10, -5, 1, 2, 4, 13].to_vec(rt.alloc())?);
-    assert_eq!(rt; heap.as_slice(), [13, -5, 1, 2, 4, -10].as_slice());
+    same(&rt, heap.as_slice(), &[13, -5, 1, 2, 4, -10]);
     let mut asked = Vec::new(rt.alloc());
     heap.retain(|item| {
         let _ = asked.push(*item);
         is_even(item)
     });
-    assert_eq!(rt; asked.as_slice(), [13, -5, 1, 2, 4, -10].as_slice());
+    same(&rt, asked.as_slice(), &[13, -5, 1, 2, 4, -10]);
     for answer in [Some(4), Some(2), Some(-10), None] {
-        assert_eq!(rt; heap.pop(), answer);
+        same(&rt, heap.pop(), answer);
     }
     Ok(())
 }
@@ -100,14 +102,14 @@ fn a_predicate_is_asked_about_each_item_in_order(rt: HostRuntime) -> Tested {
 fn items_come_in_by_value_and_by_reference(rt: HostRuntime) -> Tested {
     let mut heap = BinaryHeap::from([3, 1, 2].to_vec(rt.alloc())?);
     heap.extend([9, 8])?;
-    assert_eq!(rt; heap.as_slice(), [9, 8, 2, 1, 3].as_slice());
+    same(&rt, heap.as_slice(), &[9, 8, 2, 1, 3]);
     heap = BinaryHeap::from([3, 1, 2].to_vec(rt.alloc())?);
     heap.extend([9, 8].iter())?;
-    assert_eq!(rt; heap.as_slice(), [9, 8, 2, 1, 3].as_slice());
+    same(&rt, heap.as_slice(), &[9, 8, 2, 1, 3]);
     // It is built whole.
     heap = BinaryHeap::from([2].to_vec(rt.alloc())?);
     heap.extend([5, 9, 7])?;
-    assert_eq!(rt; heap.as_slice(), [9, 7, 2, 5].as_slice());
+    same(&rt, heap.as_slice(), &[9, 7, 2, 5]);
     Ok(())
 }
 
@@ -155,11 +157,10 @@ fn a_run_gives_a_reply_to_each_command(rt: HostRuntime) -> Tested {
         Command::Ask(at_least_5),
     ]?;
     let replies = run(rt.alloc(), &mut heap, commands).map_err(|_| AllocError)?;
-    assert_eq!(rt;
-        format!(in rt.alloc(); "{replies:?}")?.as_str(),
-        "[Pushed, Pushed, Asked(Some(false)), Popped(Some(4)), Len(1), Popped(Some(4)), \
-            Popped(None), Asked(None)]"
-    );
+    let shown = format!(in rt.alloc(); "{replies:?}")?;
+    let wanted = "[Pushed, Pushed, Asked(Some(false)), Popped(Some(4)), Len(1), Popped(Some(4)), \
+        Popped(None), Asked(None)]";
+    same(&rt, shown.as_str(), wanted);
     Ok(())
 }
 
@@ -169,11 +170,13 @@ fn the_first_item_goes_to_the_end(rt: HostRuntime) -> Tested {
     let mut items = [5, 3, 4, 1, 2];
     let mut judge = Tally::new();
     pop_to_end_with::<i32, Tally, 2>(&mut items, &mut judge);
-    assert_eq!(rt; (items, judge.made()), ([4, 3, 2, 1, 5], 2));
+    same(&rt, items, [4, 3, 2, 1, 5]);
+    same(&rt, judge.made(), 2);
     items[0] = 0;
     for len in [4, 1, 0] {
         pop_to_end_with::<i32, Tally, 2>(&mut items[..len], &mut judge);
-        assert_eq!(rt; (items, judge.made()), ([3, 1, 2, 0, 5], 4));
+        same(&rt, items, [3, 1, 2, 0, 5]);
+        same(&rt, judge.made(), 4);
     }
     Ok(())
 }
@@ -185,9 +188,11 @@ fn an_item_is_changed_and_moved_to_the_end(rt: HostRuntime) -> Tested {
     let mut judge = Tally::new();
     items[1] = 0;
     fix_with::<i32, Tally, 2>(&mut items, 1, &mut judge);
-    assert_eq!(rt; (items, judge.made()), ([9, 2, 7, 1, 0], 3));
+    same(&rt, items, [9, 2, 7, 1, 0]);
+    same(&rt, judge.made(), 3);
     remove_with::<i32, Tally, 2>(&mut items, 0, &mut judge);
-    assert_eq!(rt; (items, judge.made()), ([7, 2, 0, 1, 9], 5));
+    same(&rt, items, [7, 2, 0, 1, 9]);
+    same(&rt, judge.made(), 5);
     Ok(())
 }
 
@@ -198,13 +203,19 @@ fn a_sift_returns_the_place_where_the_item_stops(rt: HostRuntime) -> Tested {
     let mut judge = Tally::new();
     items[4] = 8;
     let stop = sift_up_with::<i32, Tally, 2>(&mut items, 4, &mut judge);
-    assert_eq!(rt; (stop, items, judge.made()), (1, [9, 8, 7, 1, 5], 2));
+    same(&rt, stop, 1);
+    same(&rt, items, [9, 8, 7, 1, 5]);
+    same(&rt, judge.made(), 2);
     items[1] = 0;
     let stop = fix_with::<i32, Tally, 2>(&mut items, 1, &mut judge);
-    assert_eq!(rt; (stop, items, judge.made()), (4, [9, 5, 7, 1, 0], 2 + 3));
+    same(&rt, stop, 4);
+    same(&rt, items, [9, 5, 7, 1, 0]);
+    same(&rt, judge.made(), 2 + 3);
     items[0] = 4;
     let stop = sift_to_bottom_with::<i32, Tally, 2>(&mut items, &mut judge);
-    assert_eq!(rt; (stop, items, judge.made()), (2, [7, 5, 4, 1, 0], 5 + 2));
+    same(&rt, stop, 2);
+    same(&rt, items, [7, 5, 4, 1, 0]);
+    same(&rt, judge.made(), 5 + 2);
     Ok(())
 }
 
@@ -213,12 +224,12 @@ fn a_sift_returns_the_place_where_the_item_stops(rt: HostRuntime) -> Tested {
 fn an_item_of_a_heap_is_removed_and_replaced_at_its_place(rt: HostRuntime) -> Tested {
     let mut heap = BinaryHeap::from([9, 5, 7, 1, 2].to_vec(rt.alloc())?);
     if let Some(place) = heap.as_slice().iter().position(|item| *item == 7) {
-        assert_eq!(rt; heap.remove_at(place), 7);
+        same(&rt, heap.remove_at(place), 7);
     }
-    assert_eq!(rt; heap.as_slice(), [9, 5, 2, 1].as_slice());
+    same(&rt, heap.as_slice(), &[9, 5, 2, 1]);
     assert!(rt; 3 < heap.len());
-    let replaced = heap.replace_at(3, 6);
-    assert_eq!(rt; (replaced, heap.as_slice()), (1, [9, 6, 2, 5].as_slice()));
+    same(&rt, heap.replace_at(3, 6), 1);
+    same(&rt, heap.as_slice(), &[9, 6, 2, 5]);
     Ok(())
 }
 
@@ -259,7 +270,7 @@ fn a_flipped_judge_gives_the_least_first(rt: HostRuntime) -> Tested {
     };
     build_with::<_, _, 2>(&mut items, &mut judge);
     compare(&rt, &items, &[1, 2, 4, 5, 3], &judge, 6);
-    assert_eq!(rt; pop_with::<_, _, 2>(&mut items, &mut judge), Some(1));
+    same(&rt, pop_with::<_, _, 2>(&mut items, &mut judge), Some(1));
     compare(&rt, &items, &[2, 3, 4, 5], &judge, 6 + 3);
     push_with::<_, _, 2>(&mut items, 0, &mut judge)?;
     compare(&rt, &items, &[0, 2, 4, 5, 3], &judge, 6 + 3 + 2);
@@ -268,7 +279,8 @@ fn a_flipped_judge_gives_the_least_first(rt: HostRuntime) -> Tested {
 
 /// Compares the items and the comparisons made.
 fn compare(rt: &impl Host, items: &[i32], wanted: &[i32], judge: &Flipped, made: u64) {
-    assert_eq!(rt; (items, judge.tally.made()), (wanted, made));
+    same(rt, items, wanted);
+    same(rt, judge.tally.made(), made);
 }
 
 // There is room, and the place is below the length.
@@ -276,10 +288,10 @@ fn compare(rt: &impl Host, items: &[i32], wanted: &[i32], judge: &Flipped, made:
 fn an_item_stops_at_the_place_returned(rt: HostRuntime) -> Tested {
     let mut heap = BinaryHeap::from([9, 5, 7].to_vec(rt.alloc())?);
     heap.reserve(1)?;
-    assert_eq!(rt; heap.push_returning_place(8), 1);
+    same(&rt, heap.push_returning_place(8), 1);
     assert_eq!(rt; heap.len(), 4);
-    assert_eq!(rt; heap.replace_at_returning_place(3, 10), (5, 0));
-    assert_eq!(rt; heap.as_slice(), [10, 9, 7, 8].as_slice());
+    same(&rt, heap.replace_at_returning_place(3, 10), (5, 0));
+    same(&rt, heap.as_slice(), &[10, 9, 7, 8]);
     Ok(())
 }
 
@@ -288,9 +300,9 @@ fn an_item_stops_at_the_place_returned(rt: HostRuntime) -> Tested {
 fn a_removal_returns_the_place_of_the_last_item(rt: HostRuntime) -> Tested {
     let mut heap = BinaryHeap::from([9, 5, 7, 1, 2].to_vec(rt.alloc())?);
     assert_eq!(rt; heap.len(), 5);
-    assert_eq!(rt; heap.raise_at_returning_place(3, 6), Ok((1, 1)));
-    assert_eq!(rt; heap.raise_at_returning_place(0, 9), Err(9));
-    assert_eq!(rt; heap.remove_at_returning_place(0), (9, 2));
-    assert_eq!(rt; heap.as_slice(), [7, 6, 2, 5].as_slice());
+    same(&rt, heap.raise_at_returning_place(3, 6), Ok((1, 1)));
+    same(&rt, heap.raise_at_returning_place(0, 9), Err(9));
+    same(&rt, heap.remove_at_returning_place(0), (9, 2));
+    same(&rt, heap.as_slice(), &[7, 6, 2, 5]);
     Ok(())
 }

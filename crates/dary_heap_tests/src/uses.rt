@@ -2,7 +2,7 @@
 //! handler of the caller's own.
 ghost use Rattle.std.specs.Prelude.{IfOk, IsSorted};
 
-use crate::{Host, Tested};
+use crate::{Tested, same};
 use dary_heap_uses::merge::merge;
 use dary_heap_uses::scheduler::Scheduler;
 use dary_heap_uses::simulation::{Change, Handler, run};
@@ -43,7 +43,7 @@ fn numbers_ascend(rt: HostRuntime) -> Tested {
     let fourth = sorted(alloc, &[0])?;
     let lists: Vec<Vec<u32>> = vec![in alloc; first, second, third, fourth]?;
     let merged = merge(alloc, lists)?;
-    assert_eq!(rt; merged.as_slice(), [0, 1, 2, 5, 5, 9].as_slice());
+    same(&rt, merged.as_slice(), &[0, 1, 2, 5, 5, 9]);
     Ok(())
 }
 
@@ -55,9 +55,9 @@ fn ties_come_in_the_order_of_the_lists(rt: HostRuntime) -> Tested {
     let third = sorted(alloc, &[word_of("nut"), word_of("lime")])?;
     let merged = merge(alloc, vec![in alloc; first, second, third]?)?;
     let wanted = ["fig", "nut", "pear", "plum", "kiwi", "lime", "melon"];
-    assert_eq!(rt; merged.len(), wanted.len());
+    same(&rt, merged.len(), wanted.len());
     for (word, text) in merged.iter().zip(wanted) {
-        assert_eq!(rt; word.text, text);
+        same(&rt, word.text, text);
     }
     Ok(())
 }
@@ -87,7 +87,8 @@ fn equal_priorities_come_in_their_order(rt: HostRuntime) -> Tested {
     for job in ["cook", "eat", "read", "write"] {
         assert!(rt; scheduler.next().is_some_and(|(_, it)| it.job == job));
     }
-    assert_eq!(rt; (scheduler.len(), scheduler.came()), (0, 5));
+    same(&rt, scheduler.len(), 0);
+    same(&rt, scheduler.came(), 5);
     Ok(())
 }
 
@@ -130,13 +131,14 @@ fn balls_bounce_in_the_order_of_moments(rt: HostRuntime) -> Tested {
     // Bounces at 0, 3 and 8, then at 12 and 14, and no budget for more.
     for (end, budget, handled) in [(9, 100, 3), (100, 2, 2)] {
         let ran = run(&mut events, &mut balls, end, budget).ok();
-        assert_eq!(rt; ran, Some(handled));
+        same(&rt, ran, Some(handled));
     }
-    assert_eq!(rt; events.moment_of(1), Some(23));
+    same(&rt, events.moment_of(1), Some(23));
     // The first lies at 15, and the second is caught.
     let last = run(&mut events, &mut balls, 100, 100).ok();
-    assert_eq!(rt; (last, events.len()), (Some(1), 0));
+    same(&rt, last, Some(1));
+    same(&rt, events.len(), 0);
     let bounces = [(0, 0), (1, 3), (0, 8), (0, 12), (0, 14), (0, 15)];
-    assert_eq!(rt; balls.bounces.as_slice(), bounces.as_slice());
+    same(&rt, balls.bounces.as_slice(), bounces.as_slice());
     Ok(())
 }
