@@ -17,7 +17,7 @@ pub loop-rest-preserved : goal.loop-rest-preserved
 loop-rest-preserved g c =
     let ran = c.loop-rest.invariant in
     let x = c.in-Some.element in
-    let more = c.push_reserved.ensures.items ∙ ap (λ y. c.loop-rest.items.items ++ y ∷ []) c.into_item.ensures in
+    let more = rw c.into_item.ensures at c.push_reserved.ensures.items in
     again ran x c.in-Some.is (c.next.ensures.steps, c.next.ensures.goes) (
       came_both g.X.Element.value _ _ _ ran.seen (x ∷ []) ran.holds.0 more,
       omega (arith, c.push_reserved.ensures.len, ran.holds.1, length-append ran.seen (x ∷ [])),
