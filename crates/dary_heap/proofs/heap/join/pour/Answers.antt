@@ -1,4 +1,4 @@
-use Rattle.dary_heap.proofs.Common.{◌++◌, [], ◌∷◌, sym, ap, ◌∙◌, arith, append-nil, length-append, begun, again, less, Gave-then}
+use Rattle.dary_heap.proofs.Common.{[], ◌∷◌, sym, arith, append-nil, length-append, begun, again, less, Gave-then}
 use Rattle.dary_heap.proofs.heap.Extending.{came_both}
 use Rattle.dary_heap.proofs.heap.join.pour.Goals as goal
 
