@@ -16,6 +16,7 @@ mod preconditions;
 #[cfg(test)]
 mod uses;
 
+#[cfg(test)]
 use std::fmt::Debug;
 use std::process::Abort;
 use std::test::Fail;
@@ -31,6 +32,7 @@ type Tested = Result<(), Fail>;
 /// Compares two values, as `assert_eq!` does, whose code is proved anew wherever it stands: a call of this function takes
 /// the prover far less time. If they differ, both are told with the name of the test, but no line of it. The caller's
 /// proof learns nothing from it, so `assert_eq!` stays where a precondition needs what is compared.
+#[cfg(test)]
 fn same<T: PartialEq + Debug + Drop>(rt: &impl Host, left: T, right: T) {
     assert_eq!(rt; left, right);
 }
