@@ -10,7 +10,7 @@ ghost use Rattle.dary_heap.specs.Path.{GoesTo, GoesUp};
 ghost use Rattle.dary_heap.specs.State.{front, front_with};
 
 use super::Judge;
-use super::paths::{sift_down, sift_down_to_bottom, sift_up};
+use super::paths::{sift_down_to_bottom, sift_down_unless_leaf, sift_up};
 
 /// Moves the item at a place up while it is strictly greater than its parent's item. Returns the place where it stops.
 ///
@@ -95,7 +95,7 @@ pub fn fix_with<T, J: Judge<T>, const D: usize>(
             return stop;
         }
     }
-    sift_down::<T, J, D>(items, place, judge)
+    sift_down_unless_leaf::<T, J, D>(items, place, judge)
 }
 
 /// Moves the first item of a slice to the bottom along greatest children, without comparing it, and then up while it
