@@ -133,7 +133,7 @@ class Report:
         """The lines that aren't there. A workload has each of its sizes at all arities."""
         for workload in [*NUMBERS, *IN_ORDER, *WIDE, SEARCH]:
             sizes = {items for name, items, _ in self.lines if name == workload}
-            wanted = SIZES[:2] if workload in IN_ORDER else SHOWN_SIZES if workload in SHOWN else SIZES
+            wanted = SHOWN_SIZES if workload in SHOWN else SIZES
             for items in sorted(sizes.union(wanted)):
                 for arity in arities_of(workload):
                     if (workload, items, arity) not in self.lines:
@@ -175,6 +175,11 @@ def there(numbers):
 def fixed(number, digits):
     """The number with so many digits behind the point. Nothing if it isn't there."""
     return "" if math.isnan(number) else f"{number:.{digits}f}"
+
+
+def told(number, digits):
+    """The number with so many digits behind the point, or as many as show two of its figures."""
+    return fixed(number, max(digits, 1 - math.floor(math.log10(number))) if number > 0 else digits)
 
 
 def mean(numbers):
@@ -253,9 +258,8 @@ def in_order(report):
     for workload, name in IN_ORDER.items():
         for items, group in report.groups[workload].items():
             cells = [fixed(line["here_ns"], 0) for line in group]
-            cells += [fixed(over(line, who), 4 if over(line, who) < 0.01 else 2) for who in BESIDE_IN_ORDER for line in group]
-            # (ten of a long heap take too little beside the set-up)
-            rows += [[name, power(items), *cells]] if any(cells) else []
+            cells += [told(over(line, who), 2) for who in BESIDE_IN_ORDER for line in group]
+            rows.append([name, power(items), *cells])
     return table(heads, rows, words=2)
 
 
@@ -358,7 +362,7 @@ def all_figures(report):
     writer = csv.writer(file, lineterminator="\n")
     writer.writerow(["workload", "arity", "items", *next(iter(report.lines.values()))])
     for (workload, items, arity), line in report.lines.items():
-        cells = [fixed(number, 2 if head.endswith("_ns") else 3) for head, number in line.items()]
+        cells = [fixed(number, 2) if head.endswith("_ns") else told(number, 3) for head, number in line.items()]
         writer.writerow([workload, arity, items, *cells])
     return file.getvalue()
 

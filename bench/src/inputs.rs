@@ -4,7 +4,7 @@ use crate::items::Item;
 use crate::queue::Queue;
 use crate::random::Random;
 use crate::search::Pair;
-use crate::workload::{asks, at_arity, Call, Given, Line, Task, Workload};
+use crate::workload::{asks, at_arity, Call, Given, Line, Task, Workload, GIVEN};
 use std::iter::zip;
 
 /// How many edges leave a node.
@@ -27,7 +27,8 @@ pub fn tasks<T: Item>((workload, arity, items): Line) -> Vec<Task<T>> {
         let first = placed(&workload, arity, drawn());
         let mut task = Task::new(first, drawn(), (workload.piece)(items));
         if workload.call == Call::Greatest {
-            task.count = asks(task.piece) * task.piece;
+            let given = |least| asks(least, task.piece) * task.piece;
+            (task.count, task.lent) = (given(GIVEN), given(GIVEN.max(items)));
         }
         task
     })
@@ -66,6 +67,7 @@ fn graph(random: &mut Random, edges: usize) -> Task<Pair> {
         more: pairs(random, SEARCHES, [nodes, nodes]),
         piece: EDGES,
         count: edges * SEARCHES,
+        lent: edges * SEARCHES,
         texts: Vec::new(),
         more_texts: Vec::new(),
     }

@@ -16,14 +16,15 @@ const TOLD: u32 = 20;
 /// The least time of a rival and its comparisons, over all inputs of a line.
 struct Figure {
     name: &'static str,
+    /// How many items it went over.
+    items: usize,
     /// None if too little is left of it when the set-up is taken off.
     time: Option<Duration>,
     comparisons: Option<u64>,
 }
 
-/// The figures of the rivals of a line, whose inputs have so many items.
+/// The figures of the rivals of a line.
 pub struct Figures {
-    items: usize,
     of: Vec<Figure>,
 }
 
@@ -74,8 +75,8 @@ impl Figures {
     }
 
     fn nanoseconds(&self, name: &str) -> Option<f64> {
-        let time = self.figure(name)?.time?;
-        Some(time.as_nanos() as f64 / self.items as f64)
+        let figure = self.figure(name)?;
+        Some(figure.time?.as_nanos() as f64 / figure.items as f64)
     }
 
     /// The time of this heap over that of another.
@@ -84,8 +85,8 @@ impl Figures {
     }
 
     fn comparisons(&self, name: &str) -> Option<f64> {
-        let made = self.figure(name)?.comparisons?;
-        Some(made as f64 / self.items as f64)
+        let figure = self.figure(name)?;
+        Some(figure.comparisons? as f64 / figure.items as f64)
     }
 
     /// Takes the time of a set-up off.
@@ -131,10 +132,7 @@ pub fn measure<T, M: Copy + Default + Ord>(
         }
         round += 1;
     }
-    Ok(Figures {
-        items: tasks.iter().map(|task| task.count).sum(),
-        of,
-    })
+    Ok(Figures { of })
 }
 
 /// Whether another round is made after so many.
@@ -157,6 +155,8 @@ fn wanted<T, M: Copy + Default>(rivals: &[Rival<T, M>], tasks: &[Task<T>]) -> Ve
 /// The figure of a rival with its comparisons, before any run.
 fn counted<T, M: Copy + Default>(rival: &Rival<T, M>, tasks: &[Task<T>]) -> Result<Figure, String> {
     let name = rival.name;
+    let of = |task: &Task<T>| if rival.lends { task.lent } else { task.count };
+    let items = tasks.iter().map(of).sum();
     let mut comparisons = None;
     if let Some(count) = &rival.count {
         let made = |task: &Task<T>| count(task, &mut vec![M::default(); task.items.len()]);
@@ -165,6 +165,7 @@ fn counted<T, M: Copy + Default>(rival: &Rival<T, M>, tasks: &[Task<T>]) -> Resu
     }
     Ok(Figure {
         name,
+        items,
         time: None,
         comparisons,
     })

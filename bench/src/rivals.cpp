@@ -44,7 +44,7 @@ struct Record {
 
 // The queue of std. Its items lie in `c`, as those of a heap of arity 2.
 template <typename T> struct Queue : std::priority_queue<T> {
-    static constexpr bool BUILDS = true;
+    static constexpr bool BUILDS = true, LENDS = false;
 
     Queue() = default;
     // It builds, also if the items are heap ordered.
@@ -69,7 +69,7 @@ template <typename T> struct Queue : std::priority_queue<T> {
 #ifdef HAS_BOOST
 // boost's heap has no build, so items are pushed. It lends its items by an iterator, in the order of no list.
 template <typename T, unsigned D> struct Boosted : boost::heap::d_ary_heap<T, boost::heap::arity<D>> {
-    static constexpr bool BUILDS = false;
+    static constexpr bool BUILDS = false, LENDS = true;
 
     Boosted() = default;
     Boosted(const T *items, std::size_t len) {
@@ -152,7 +152,8 @@ template <typename T, typename Heap> std::uint64_t turns(const Given<T> &given) 
 template <typename T, typename Heap> std::uint64_t greatest(const Given<T> &given) {
     const Heap heap(given.items, given.len);
     const std::size_t most = std::min(given.piece, given.len);
-    for (std::size_t asked = 0; asked < std::max<std::size_t>(10000 / given.piece, 1); asked++)
+    const std::size_t all = std::max<std::size_t>(10000, Heap::LENDS ? given.len : 0);
+    for (std::size_t asked = 0; asked < std::max<std::size_t>(all / given.piece, 1); asked++)
         heap.write_greatest(given.out, most);
     return most;
 }

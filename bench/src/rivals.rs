@@ -24,6 +24,8 @@ pub struct Rival<T, M> {
     /// Whether it writes what the crate's heap does, and not only the same items: the slice is another if the
     /// heap has another arity.
     pub is_equal: bool,
+    /// Whether it lends its greatest items, and copies nothing.
+    pub lends: bool,
 }
 
 /// Returns how much it wrote, or where that is counted how many comparisons it made; none if memory allocation
@@ -69,6 +71,7 @@ pub fn of_items<T: Foreign>(call: Call, arity: usize) -> Vec<Rival<T, T::Mark>> 
         run,
         count: None,
         is_equal: [HERE, CRATE].contains(&name) || !writes_slice(call),
+        lends: [HERE, BOOST].contains(&name),
     });
     rivals.collect()
 }
@@ -119,6 +122,7 @@ pub fn of_graphs() -> Vec<Rival<Pair, u64>> {
         run,
         count: Some(count),
         is_equal: true,
+        lends: false,
     });
     rivals.into()
 }

@@ -68,8 +68,6 @@ pub type Line = (Workload, usize, usize);
 /// Sizes to beyond the caches.
 const ALL: &[usize] = &[1_000, 10_000, 100_000, 1_000_000, 10_000_000];
 const SOME: &[usize] = &[1_000, 100_000, 1_000_000];
-/// Of more items nothing but the set-up could be told.
-const SHORT: &[usize] = &[1_000, 100_000];
 
 impl Workload {
     const fn given(self, given: Given) -> Workload {
@@ -112,12 +110,13 @@ fn eighth(items: usize) -> usize {
     (items / 8).max(1)
 }
 
-/// How many items are asked for in all, at least, if a heap is asked for its greatest ones.
-const GIVEN: usize = 10_000;
+/// How many items are asked for in all, at least, if a heap is asked for its greatest ones. One that lends them is
+/// asked for as many as it has, if that is more.
+pub const GIVEN: usize = 10_000;
 
-/// How often a heap is asked for so many.
-pub fn asks(piece: usize) -> usize {
-    (GIVEN / piece).max(1)
+/// How often a heap is asked for a piece, so that it gives so many items.
+pub fn asks(given: usize, piece: usize) -> usize {
+    (given / piece).max(1)
 }
 
 pub const WORKLOADS: [Workload; 30] = [
@@ -136,7 +135,7 @@ pub const WORKLOADS: [Workload; 30] = [
     on(Kind::Numbers, "append_eighth", Call::Append, SOME).by(eighth),
     on(Kind::Numbers, "retain", Call::Retain, SOME),
     on(Kind::Numbers, "into_iter_sorted", Call::Sorted, SOME),
-    on(Kind::Numbers, "iter_sorted_ten", Call::Greatest, SHORT).by(|_| 10),
+    on(Kind::Numbers, "iter_sorted_ten", Call::Greatest, SOME).by(|_| 10),
     on(Kind::Numbers, "iter_sorted_all", Call::Greatest, SOME).by(|items| items),
     on(Kind::Entries, "build_entries", Call::Build, SOME),
     on(Kind::Entries, "push_entries", Call::Push, SOME),
@@ -159,8 +158,9 @@ pub struct Task<T> {
     /// What a churn pushes, and by what the items become less that come out at each turn.
     pub more: Vec<T>,
     pub piece: usize,
-    /// How many items a run goes over.
+    /// How many items a run goes over, and how many it does if the heap lends its greatest ones.
     pub count: usize,
+    pub lent: usize,
     /// The items, and those of `more`, if the library is handed them as texts.
     pub texts: Vec<Text>,
     pub more_texts: Vec<Text>,
@@ -172,6 +172,7 @@ impl<T: Item> Task<T> {
             texts: items.iter().filter_map(T::text).collect(),
             more_texts: more.iter().filter_map(T::text).collect(),
             count: items.len(),
+            lent: items.len(),
             items,
             more,
             piece,
@@ -324,7 +325,7 @@ fn turns<T: Item, Q: Queue<T>>(mut heap: Q, more: &[T], out: &mut [T::Mark]) -> 
 /// It pops from a copy.
 #[inline(never)]
 fn greatest<T: Item, Q: Queue<T>>(heap: Q, most: usize, out: &mut [T::Mark]) -> usize {
-    for _ in 0..asks(most) {
+    for _ in 0..asks(GIVEN, most) {
         sorted(heap.clone(), &mut out[..most]);
     }
     most
