@@ -95,6 +95,18 @@ module _ {X : Type 0} (key : X → ℕ) where
     pub noted_last : at ≤ high → AreRight key xs (set places (key x) at)
     noted_last ends = record { right = λ i item here. noted i item (λ apart on. apart (lone_on_path D at high i ends on)) here }
 
+  -- an item that stayed where it was, with its place in the table
+  pub stayed : (D at : ℕ) (xs : List X) {places : List ℕ} (x : X) → slice_get xs at ≡ Some x → slice_get places (key x) ≡ Some at → AreRightOffPath key D at at xs places → AreRight key xs places
+  stayed D at xs {places} x there noted h = record {
+    right = λ i item here. elim (cases_eq i at) [
+      | inl is ↦
+          let now : slice_get xs at ≡ Some item = subst (λ (k : ℕ). slice_get xs k ≡ Some item) is here in
+          let same : item ≡ x = (cc) in
+          ap (λ (e : X). slice_get places (key e)) same ∙ noted ∙ ap Some (sym is)
+      | inr apart ↦ h.elsewhere i item (λ on. apart (lone_on_path D at at i (omega arith) on)) here
+    ];
+  }
+
   module _ (D low high : ℕ) (xs ys : List X) {places : List ℕ} where
     off_path : (from : ℕ) → IsOnPath D low high from → ((i : ℕ) → IsOnPath D low high i ⊎ (slice_get ys i ≡ slice_get xs i)) → AreRightButAt key from xs places →
         AreRightOffPath key D low high ys places

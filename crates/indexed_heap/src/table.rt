@@ -197,7 +197,10 @@ pub(crate) fn change<T, J: Judge<(usize, T)>, const D: usize>(
     ensures capacity { entries.new.capacity ≡ entries.old.capacity }
 {
     let (old, stop) = entries.replace_at_returning_place(at, (key, item));
-    write_path::<T, D>(entries.as_slice(), places, at.max(stop), at.min(stop));
+    // (if the entry stays, its place is right)
+    if stop != at {
+        write_path::<T, D>(entries.as_slice(), places, at.max(stop), at.min(stop));
+    }
     old.1
 }
 

@@ -64,7 +64,8 @@ impl<T, const D: usize, J: Judge<T>> DaryHeap<T, D, J> {
     /// assert_eq!(rt; heap.remove_at_returning_place(0), (9, 2));
     /// assert_eq!(rt; heap.as_slice(), [7, 5, 2, 1].as_slice());
     /// ```
-    #[inline]
+    // (as `swap_remove_with`)
+    #[inline(always)]
     pub fn remove_at_returning_place(&mut self, place: usize) -> (T, usize)
         requires { place < length self.old.items }
         ensures item { slice_get self.old.items place ≡ Some result.0 }

@@ -163,7 +163,9 @@ pub(crate) fn push_reserved_with<T, J: Judge<T>, const D: usize>(
 
 /// Takes the item at a place out of a vector that is a heap. The last one takes its place, and goes up or down from
 /// there. Returns the item that was taken out, and the place where the one that was last stops.
-#[inline]
+///
+/// It is built into its callers, since one that takes out the first item needs nothing of `fix_with`.
+#[inline(always)]
 pub(crate) fn swap_remove_with<T, J: Judge<T>, const D: usize>(
     items: &mut Vec<T>,
     place: usize,
