@@ -296,7 +296,7 @@ def by_kind(report):
     for name in KINDS.values():
         found = report.ratios(MEANS[name], "crate")
         texts.append(f"{mean(found):.2f} ({min(found):.2f} to {max(found):.2f}) for {name}")
-    return f"On the mean the time is {listed(texts)} of the crate's."
+    return f"On the mean it takes, of the crate's time, {listed(texts)}."
 
 
 def pop_series(report):

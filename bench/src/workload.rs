@@ -158,8 +158,9 @@ pub struct Task<T> {
     /// What a churn pushes, and by what the items become less that come out at each turn.
     pub more: Vec<T>,
     pub piece: usize,
-    /// How many items a run goes over, and how many it does if the heap lends its greatest ones.
+    /// How many items a run goes over.
     pub count: usize,
+    /// The same, if the heap lends its greatest ones.
     pub lent: usize,
     /// The items, and those of `more`, if the library is handed them as texts.
     pub texts: Vec<Text>,
