@@ -296,7 +296,7 @@ def by_kind(report):
     for name in KINDS.values():
         found = report.ratios(MEANS[name], "crate")
         texts.append(f"{mean(found):.2f} ({min(found):.2f} to {max(found):.2f}) for {name}")
-    return f"On the mean it takes, of the crate's time, {listed(texts)}."
+    return f"The mean time over the crate's is {listed(texts)}."
 
 
 def pop_series(report):
