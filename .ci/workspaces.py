@@ -27,21 +27,13 @@ def lay_out(tree, *names):
 
 
 def add_caller(tree, files, *libraries):
-    """Adds a crate `my_crate` over these libraries to a repository, in place of an earlier one. Its files are a dict from path to
-    text. Returns its folder."""
-    folder, rows = remove_caller(tree), (tree / "crates.txt").read_text(encoding="utf-8")
+    """Adds a crate `my_crate` over these libraries to a repository. Its files are a dict from path to text. Returns its folder."""
+    folder = tree / "crates/my_crate"
     for path, text in files.items():
         (folder / path).parent.mkdir(parents=True, exist_ok=True)
         (folder / path).write_text(text, encoding="utf-8")
+    rows = (tree / "crates.txt").read_text(encoding="utf-8")
     set_rows(tree, f"{rows}my_crate: {' '.join(libraries)}\n")
-    return folder
-
-
-def remove_caller(tree):
-    """Removes that crate, if it is there. Returns its folder."""
-    folder, rows = tree / "crates/my_crate", (tree / "crates.txt").read_text(encoding="utf-8")
-    set_rows(tree, re.sub(r"^my_crate:.*\n", "", rows, flags=re.M))
-    shutil.rmtree(folder, ignore_errors=True)
     return folder
 
 

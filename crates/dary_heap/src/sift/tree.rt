@@ -1,5 +1,5 @@
 //! The tree of arity `D` that a slice is read as: the parent of a place, its depth, and where its children begin.
-ghost use Rattle.std.specs.Prelude.{◌≡◌, ◌+◌, ◌-◌, ◌*◌, ◌^◌, ◌<◌, ◌≤◌};
+ghost use Rattle.std.specs.Prelude.{◌≡◌, ℕ, ◌+◌, ◌-◌, ◌*◌, ◌^◌, ◌<◌, ◌≤◌};
 ghost use Rattle.dary_heap.specs.sift.Choosing.{IsFirstChild};
 ghost use Rattle.dary_heap.specs.HeapOrder.{arity as arity_of, depth as depth_of, parent as parent_of};
 
@@ -84,4 +84,15 @@ pub(crate) fn first_child<const D: usize>(at: usize, len: usize) -> Option<usize
     }
     let first = at * arity + 1;
     if first < len { Some(first) } else { None }
+}
+
+/// Returns a place that is before no place with grandchildren: the children of it and of all behind it have no
+/// children.
+#[inline(always)]
+pub(crate) fn parents_of_leaves<const D: usize>(len: usize) -> usize
+    requires { 0 < len }
+    ensures { (at : ℕ) → result ≤ at → len ≤ (at * arity_of D + 1) * arity_of D + 1 }
+{
+    let arity = arity::<D>();
+    ((len - 1) / arity).div_ceil(arity)
 }
