@@ -94,5 +94,5 @@ pub(crate) fn parents_of_leaves<const D: usize>(len: usize) -> usize
     ensures { (at : ℕ) → result ≤ at → len ≤ (at * arity_of D + 1) * arity_of D + 1 }
 {
     let arity = arity::<D>();
-    ((len - 1) / arity).div_ceil(arity)
+    (len - 1) / arity / arity + 1
 }
