@@ -86,8 +86,7 @@ pub(crate) fn first_child<const D: usize>(at: usize, len: usize) -> Option<usize
     if first < len { Some(first) } else { None }
 }
 
-/// Returns a place that is before no place with grandchildren: the children of it and of all behind it have no
-/// children.
+/// Returns a place from which on no place of `len` has grandchildren.
 #[inline(always)]
 pub(crate) fn parents_of_leaves<const D: usize>(len: usize) -> usize
     requires { 0 < len }
