@@ -38,7 +38,7 @@ def add_caller(tree, files, *libraries):
 
 
 def set_rows(tree, rows):
-    """Writes crates.txt, which another command may read meanwhile, at once."""
+    """Writes crates.txt as a new file, since in a copy it may be a link."""
     (tree / "crates.new").write_text(rows, encoding="utf-8")
     (tree / "crates.new").rename(tree / "crates.txt")
 

@@ -86,7 +86,7 @@ pub(crate) fn first_child<const D: usize>(at: usize, len: usize) -> Option<usize
     if first < len { Some(first) } else { None }
 }
 
-/// Returns a place from which on no place of `len` has grandchildren.
+/// Returns a place from which on no place of `len` has grandchildren: the first such place, or the next.
 #[inline(always)]
 pub(crate) fn parents_of_leaves<const D: usize>(len: usize) -> usize
     requires { 0 < len }
