@@ -10,9 +10,7 @@ use dary_heap::sift::{
     remove_with, sift_to_bottom_with, sift_up_with,
 };
 use dary_heap::{BinaryHeap, OctonaryHeap, TernaryHeap};
-use dary_heap_uses::greatest::greatest;
 use std::alloc::AllocError;
-use std::cmp::Reverse;
 
 // What `into_vec` gives is in heap order at the same arity, as `from_raw_vec` needs it, and the iterators end.
 #[test]
@@ -230,17 +228,6 @@ fn an_item_of_a_heap_is_removed_and_replaced_at_its_place(rt: HostRuntime) -> Te
     assert!(rt; 3 < heap.len());
     same(&rt, heap.replace_at(3, 6), 1);
     same(&rt, heap.as_slice(), &[9, 6, 2, 5]);
-    Ok(())
-}
-
-// The iterator of a vector ends.
-#[test]
-fn the_two_greatest_of_a_stream_are_kept(rt: HostRuntime) -> Tested {
-    let stream = [4, 9, 1, 7].to_vec(rt.alloc())?;
-    let mut kept = greatest::<i32, Vec<i32>, 3>(rt.alloc(), stream, 2)?;
-    for answer in [Some(Reverse(7)), Some(Reverse(9)), None] {
-        assert!(rt; kept.pop() == answer);
-    }
     Ok(())
 }
 

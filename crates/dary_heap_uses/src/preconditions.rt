@@ -1,14 +1,15 @@
-//! Calls of public functions of `dary_heap_uses` that have a precondition, at concrete types, and a
-//! handler of the caller's own.
+//! Calls of functions that have a precondition, at concrete types, and a handler of the caller's own.
 ghost use Rattle.std.specs.Prelude.{IfOk, IsSorted};
 
-use crate::{Tested, same};
-use dary_heap_uses::merge::merge;
-use dary_heap_uses::scheduler::Scheduler;
-use dary_heap_uses::simulation::{Change, Handler, run};
-use dary_heap_uses::timers::TimerQueue;
+use crate::greatest::greatest;
+use crate::merge::merge;
+use crate::scheduler::Scheduler;
+use crate::simulation::{Change, Handler, run};
+use crate::timers::TimerQueue;
 use std::alloc::{AllocError, Global};
+use std::cmp::Reverse;
 use std::process::Abort;
+use std::test::Fail;
 
 /// A word, which is compared by its length alone.
 #[derive(Clone, Copy)]
@@ -35,7 +36,7 @@ fn sorted<T: Ord + Copy>(alloc: Global, items: &[T]) -> Result<Vec<T>, AllocErro
 }
 
 #[test]
-fn numbers_ascend(rt: HostRuntime) -> Tested {
+fn numbers_ascend(rt: HostRuntime) -> Result<(), Fail> {
     let alloc = rt.alloc();
     let first = sorted(alloc, &[1, 5, 9])?;
     let second = sorted(alloc, &[])?;
@@ -43,21 +44,21 @@ fn numbers_ascend(rt: HostRuntime) -> Tested {
     let fourth = sorted(alloc, &[0])?;
     let lists: Vec<Vec<u32>> = vec![in alloc; first, second, third, fourth]?;
     let merged = merge(alloc, lists)?;
-    same(&rt, merged.as_slice(), &[0, 1, 2, 5, 5, 9]);
+    assert_eq!(rt; merged.as_slice(), [0, 1, 2, 5, 5, 9].as_slice());
     Ok(())
 }
 
 #[test]
-fn ties_come_in_the_order_of_the_lists(rt: HostRuntime) -> Tested {
+fn ties_come_in_the_order_of_the_lists(rt: HostRuntime) -> Result<(), Fail> {
     let alloc = rt.alloc();
     let first = sorted(alloc, &[word_of("fig"), word_of("pear"), word_of("plum")])?;
     let second = sorted(alloc, &[word_of("kiwi"), word_of("melon")])?;
     let third = sorted(alloc, &[word_of("nut"), word_of("lime")])?;
     let merged = merge(alloc, vec![in alloc; first, second, third]?)?;
     let wanted = ["fig", "nut", "pear", "plum", "kiwi", "lime", "melon"];
-    same(&rt, merged.len(), wanted.len());
+    assert_eq!(rt; merged.len(), wanted.len());
     for (word, text) in merged.iter().zip(wanted) {
-        same(&rt, word.text, text);
+        assert_eq!(rt; word.text, text);
     }
     Ok(())
 }
@@ -75,7 +76,7 @@ fn submit(
 }
 
 #[test]
-fn equal_priorities_come_in_their_order(rt: HostRuntime) -> Tested {
+fn equal_priorities_come_in_their_order(rt: HostRuntime) -> Result<(), Fail> {
     let mut scheduler = Scheduler::new(rt.alloc());
     scheduler.reserve(5, 5)?;
     let jobs = ["write", "cook", "sweep", "eat", "read"];
@@ -87,8 +88,8 @@ fn equal_priorities_come_in_their_order(rt: HostRuntime) -> Tested {
     for job in ["cook", "eat", "read", "write"] {
         assert!(rt; scheduler.next().is_some_and(|(_, it)| it.job == job));
     }
-    same(&rt, scheduler.len(), 0);
-    same(&rt, scheduler.came(), 5);
+    assert_eq!(rt; scheduler.len(), 0);
+    assert_eq!(rt; scheduler.came(), 5);
     Ok(())
 }
 
@@ -119,7 +120,7 @@ impl Handler for Balls {
 }
 
 #[test]
-fn balls_bounce_in_the_order_of_moments(rt: HostRuntime) -> Tested {
+fn balls_bounce_in_the_order_of_moments(rt: HostRuntime) -> Result<(), Fail> {
     let mut balls = Balls {
         alloc: rt.alloc(),
         heights: [8, 20],
@@ -131,14 +132,25 @@ fn balls_bounce_in_the_order_of_moments(rt: HostRuntime) -> Tested {
     // Bounces at 0, 3 and 8, then at 12 and 14, and no budget for more.
     for (end, budget, handled) in [(9, 100, 3), (100, 2, 2)] {
         let ran = run(&mut events, &mut balls, end, budget).ok();
-        same(&rt, ran, Some(handled));
+        assert_eq!(rt; ran, Some(handled));
     }
-    same(&rt, events.moment_of(1), Some(23));
+    assert_eq!(rt; events.moment_of(1), Some(23));
     // The first lies at 15, and the second is caught.
     let last = run(&mut events, &mut balls, 100, 100).ok();
-    same(&rt, last, Some(1));
-    same(&rt, events.len(), 0);
+    assert_eq!(rt; last, Some(1));
+    assert_eq!(rt; events.len(), 0);
     let bounces = [(0, 0), (1, 3), (0, 8), (0, 12), (0, 14), (0, 15)];
-    same(&rt, balls.bounces.as_slice(), bounces.as_slice());
+    assert_eq!(rt; balls.bounces.as_slice(), bounces.as_slice());
+    Ok(())
+}
+
+// The iterator of a vector ends.
+#[test]
+fn the_two_greatest_of_a_stream_are_kept(rt: HostRuntime) -> Result<(), Fail> {
+    let stream = [4, 9, 1, 7].to_vec(rt.alloc())?;
+    let mut kept = greatest::<i32, Vec<i32>, 3>(rt.alloc(), stream, 2)?;
+    for answer in [Some(Reverse(7)), Some(Reverse(9)), None] {
+        assert!(rt; kept.pop() == answer);
+    }
     Ok(())
 }
