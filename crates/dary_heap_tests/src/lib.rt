@@ -1,6 +1,6 @@
 //! Callers that are proved, since their proofs show that the contracts of the priority queue serve a caller:
 //! calls of functions that have a precondition, at concrete types, a judge of the caller's own, and a call of each
-//! function of `indexed_heap`. Those of `dary_heap_uses` are in that crate.
+//! function of `indexed_heap`. Those of `dary_heap_uses` are in `dary_heap_uses_tests`.
 //!
 //! All other tests are run and not proved, and stand in the folder `trials`: of them a proof says only that
 //! they are safe.

@@ -6,8 +6,6 @@ pub mod calling;
 pub mod from_std;
 pub mod greatest;
 pub mod merge;
-#[cfg(test)]
-mod preconditions;
 pub mod scheduler;
 pub mod simulation;
 pub mod timers;

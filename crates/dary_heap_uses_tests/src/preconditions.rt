@@ -1,11 +1,11 @@
-//! Calls of functions that have a precondition, at concrete types, and a handler of the caller's own.
+//! Calls of functions of `dary_heap_uses` that have a precondition, at concrete types, and a handler of the caller's own.
 ghost use Rattle.std.specs.Prelude.{IfOk, IsSorted};
 
-use crate::greatest::greatest;
-use crate::merge::merge;
-use crate::scheduler::Scheduler;
-use crate::simulation::{Change, Handler, run};
-use crate::timers::TimerQueue;
+use dary_heap_uses::greatest::greatest;
+use dary_heap_uses::merge::merge;
+use dary_heap_uses::scheduler::Scheduler;
+use dary_heap_uses::simulation::{Change, Handler, run};
+use dary_heap_uses::timers::TimerQueue;
 use std::alloc::{AllocError, Global};
 use std::cmp::Reverse;
 use std::process::Abort;
