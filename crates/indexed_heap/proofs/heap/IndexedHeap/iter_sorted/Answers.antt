@@ -1,3 +1,5 @@
+use Rattle.dary_heap.proofs.Common.{arith}
+use Rattle.std.proofs.lemmas.Grind.{common_steps}
 use Rattle.dary_heap.proofs.iter.InOrder.{gives_greatest}
 use Rattle.indexed_heap.specs.Entries.{by_item}
 use Rattle.indexed_heap.specs.Iterating.{shown}
@@ -8,3 +10,6 @@ returns-clause-starts g c = rw (← c.self.view_is) c.in_ok-iter_sorted.ensures.
 
 pub returns-clause-greatest : goal.returns-clause-greatest
 returns-clause-greatest g c = gives_greatest shown (by_item g.J.Judge.order) g.row.D _
+
+pub returns-in_err-iter_sorted-clause-succeeds : goal.returns-in_err-iter_sorted-clause-succeeds
+returns-in_err-iter_sorted-clause-succeeds g c = grind (arith, common_steps)

@@ -1,4 +1,5 @@
-use Rattle.dary_heap.proofs.Common.{◌≡◌, ℕ, Bool, true, false, Some, None, if◌then◌else◌, refl, ◌∙◌, subst}
+use Rattle.std.proofs.lemmas.Grind.{common_steps}
+use Rattle.dary_heap.proofs.Common.{◌≡◌, arith, ℕ, Bool, true, false, Some, None, if◌then◌else◌, refl, ◌∙◌, subst}
 use Rattle.indexed_heap.specs.Entries.{MayAnswer}
 use Rattle.indexed_heap.proofs.heap.IndexedHeap.pop_if.Goals as goal
 
@@ -17,3 +18,9 @@ returns-else-predicate-clause-asked g c = λ entry is.
     let same : (c.in_ok-key.key, shown.now) ≡ entry = (cc) in
     subst (λ (e : ℕ × g.row.T.Denot). (answer : Bool) × MayAnswer g.F.FnOnce c.args.predicate e answer × (None ≡ (if answer then Some e else None))) same
     (false, (shown, c.if-predicate.ensures, refl), refl)
+
+pub returns-then-predicate-clause-shown : goal.returns-then-predicate-clause-shown
+returns-then-predicate-clause-shown g c = grind (arith, common_steps)
+
+pub returns-else-predicate-clause-shown : goal.returns-else-predicate-clause-shown
+returns-else-predicate-clause-shown g c = grind (arith, common_steps)
