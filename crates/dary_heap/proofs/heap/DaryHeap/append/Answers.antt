@@ -1,4 +1,5 @@
-use Rattle.dary_heap.proofs.{◌++◌, length, length-append, ap, ◌∙◌, arith, IsPermutation-trans, length_permutation, IsPermutation-append_comm, none_ordered, vec_capacity, ◌≡◌, ◌≤◌, if◌then◌else◌, nat_lt, ℕ, sym}
+use Rattle.std.proofs.lemmas.Grind.{common_steps}
+use Rattle.dary_heap.proofs.{◌++◌, length, length-append, ap, ◌∙◌, arith, IsPermutation-trans, length_permutation, IsPermutation-append_comm, none_ordered}
 use Rattle.dary_heap.proofs.heap.DaryHeap.append.Goals as goal
 use Rattle.dary_heap.proofs.heap.DaryHeap.append.Goals.{then-len+in-Ok, else-len+in-Ok-reserve}
 
@@ -53,15 +54,5 @@ returns-in_default-reserve g c = grind arith
 pub returns-clause-uncounted : goal.returns-clause-uncounted
 returns-clause-uncounted g c = grind arith
 
--- of two numbers the second is chosen if the first of two others is not less
-second_chosen : (m n a b : ℕ) → n ≤ m → (if nat_lt m n then a else b) ≡ b
-second_chosen m n a b at_most = grind arith
-
 pub returns-clause-other_capacity : goal.returns-clause-other_capacity
-returns-clause-other_capacity g c = elim c.if-len.branch [
-  | then-len+in-Ok w ↦ grind (arith, w.if-len.true, w.self-inside-is, w.other-inside-is, w.swap.ensures.y_after, c.take_in.ensures.other_capacity)
-  | else-len+in-Ok-reserve w ↦
-      let kept : c.take_in.new.others.cap ≡ c.other.inside.items.cap = c.take_in.ensures.other_capacity ∙ ap (λ h. vec_capacity h.items) w.other-inside-is in
-      let at_most : length c.args.other.now.items ≤ length c.args.self.now.items = rw (← c.self.view_is, ← c.other.view_is) (omega (arith, w.if-len.false, c.len.ensures, c.len-2.ensures)) in
-      kept ∙ ap (λ it. it.capacity) c.other.view_is ∙ sym (second_chosen _ _ c.args.self.now.capacity c.args.other.now.capacity at_most)
-]
+returns-clause-other_capacity g c = grind (arith, common_steps)
