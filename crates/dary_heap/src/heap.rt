@@ -340,7 +340,8 @@ impl<T, const D: usize, J: Judge<T>> DaryHeap<T, D, J> {
     }
 }
 
-/// Removes a greatest item of a heap's vector and returns it, as [`DaryHeap::pop`] does.
+/// Removes a greatest item of a heap's vector and returns it, as [`DaryHeap::pop`] does. An `IterSorted` holds no heap, and
+/// a `DrainSorted` can't call `pop`, for the reason that it gives.
 #[inline(always)]
 pub(crate) fn pop_ordered<T, J: Judge<T>, const D: usize>(
     items: &mut Vec<T>,

@@ -11,7 +11,7 @@ ghost use Rattle.dary_heap.specs.HeapOrder.{IsHeapOrdered, depth};
 ghost use Rattle.dary_heap.specs.Path.{GoesTo, GoesUp};
 
 use super::DaryHeap;
-use crate::sift::{Judge, fix_with, push_reserved_with, sift_up_with, swap_remove_with};
+use crate::sift::{Judge, fix_with, push_reserved_with, sift_to_bottom_with, sift_up_with};
 use std::mem;
 
 impl<T, const D: usize, J: Judge<T>> DaryHeap<T, D, J> {
@@ -64,7 +64,7 @@ impl<T, const D: usize, J: Judge<T>> DaryHeap<T, D, J> {
     /// assert_eq!(rt; heap.remove_at_returning_place(0), (9, 2));
     /// assert_eq!(rt; heap.as_slice(), [7, 5, 2, 1].as_slice());
     /// ```
-    // (as `swap_remove_with`)
+    // It is built into its callers, since one that removes the first item needs nothing of `fix_with`.
     #[inline(always)]
     pub fn remove_at_returning_place(&mut self, place: usize) -> (T, usize)
         requires { place < length self.old.items }
@@ -85,7 +85,17 @@ impl<T, const D: usize, J: Judge<T>> DaryHeap<T, D, J> {
         ensures capacity { self.new.capacity ≡ self.old.capacity }
         ensures leaves_room { length self.new.items < self.new.capacity }
     {
-        swap_remove_with::<T, J, D>(&mut self.items, place, &mut self.judge)
+        let item = self.items.swap_remove(place);
+        if self.items.len() <= place {
+            return (item, place);
+        }
+        let rest = self.items.as_mut_slice();
+        if place == 0 {
+            let stop = sift_to_bottom_with::<T, J, D>(rest, &mut self.judge);
+            return (item, stop);
+        }
+        let stop = fix_with::<T, J, D>(rest, place, &mut self.judge);
+        (item, stop)
     }
 
     /// Puts another item at a place, as [`replace_at`](DaryHeap::replace_at) does. Returns the one that was there, and

@@ -1,7 +1,7 @@
 use Rattle.dary_heap.proofs.Common.{List, length, sym, subst, ap, ◌∙◌, length_permutation, SiftsToBottom}
 use Rattle.dary_heap.proofs.hole.Holes.{refilled}
 use Rattle.dary_heap.proofs.sift.Sifting.{ComesTo-begins}
-use Rattle.dary_heap.proofs.sift.paths.fn.sift_down_to_bottom.with_slots.Goals as goal
+use Rattle.dary_heap.proofs.sift.one_item.fn.sift_to_bottom_with.with_slots.Goals as goal
 
 pub returns-then-guesses : goal.returns-then-guesses
 returns-then-guesses g c =
