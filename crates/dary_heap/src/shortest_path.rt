@@ -2,8 +2,8 @@
 //!
 //! [`shortest_path`] is the search that the documentation of heaps gives as its example. Its
 //! contract speaks of walks and of what they cost, by the words of `specs/Walk.antt`, which know
-//! nothing of a search. It stands on `new`, `clear`, `push` and `pop` of the heap alone.
-//! [`shortest_path_with`] is the same over a heap that the caller gives.
+//! nothing of a search. It stands on `new`, `push` and `pop` of the heap alone.
+//! [`shortest_path_with`] is the same over a heap that the caller gives, which it clears first.
 ghost use Rattle.std.proofs.Common.{rules};
 ghost use Rattle.std.specs.Cmp.{partial_order_from_own_ties};
 ghost use Rattle.std.specs.Cmp.Rules.{comparing};
@@ -154,11 +154,12 @@ pub fn shortest_path(
         (λ refusal. refusal ≡ CostTooLarge → HasCritical usize.MAX adj_list.now.items start goal) }
 {
     let mut heap = TernaryHeap::new(alloc);
-    shortest_path_with(alloc, adj_list, start, goal, &mut heap)
+    let mut work = Work::new();
+    search(alloc, adj_list, start, goal, &mut heap, &mut work)
 }
 
 /// The same search over a heap that the caller gives, of any arity: its judge counts the comparisons, and many searches
-/// can share its room. What it holds before doesn't matter.
+/// can share its room, which is kept. What it holds before doesn't matter.
 ///
 /// # Preconditions
 ///
@@ -204,6 +205,7 @@ pub fn shortest_path_with<const D: usize, J: JudgesByOrd<State>>(
         (λ refusal. refusal ≡ CostTooLarge → HasCritical usize.MAX adj_list.now.items start goal) }
     ensures counted { RisesWithin heap.old.comparisons heap.new.comparisons
         (search_bound D (sum_by (λ row. length row.items) adj_list.now.items)) }
+    ensures room { heap.old.capacity ≤ heap.new.capacity }
 {
     heap.clear();
     let mut work = Work::new();
@@ -243,6 +245,7 @@ fn search<const D: usize, J: JudgesByOrd<State>>(
     ensures few { length heap.new.items ≤ length work.new.examined + 1 }
     ensures counted { RisesWithin heap.old.comparisons heap.new.comparisons
         (search_bound D (length work.new.examined)) }
+    ensures room { heap.old.capacity ≤ heap.new.capacity }
 {
     // What a walk to each node was found to cost so far, and the greatest number if none was found.
     let Ok(mut found) = vec![in alloc; usize::MAX; adj_list.len()] else {
@@ -289,6 +292,7 @@ fn relax<const D: usize, J: JudgesByOrd<State>>(
     ensures pushed { work.new.pushes + length work.old.examined
         ≤ work.old.pushes + length work.new.examined }
     ensures all { OnOk result (work.new.examined ≡ work.old.examined ++ edges.now.items) }
+    ensures room { heap.old.capacity ≤ heap.new.capacity }
 {
     for edge in edges {
         examine(*edge, cost, found, heap, work)?;
@@ -315,6 +319,7 @@ fn examine<const D: usize, J: JudgesByOrd<State>>(
     ensures examined { work.new.examined ≡ work.old.examined ++ edge ∷ [] }
     ensures pushed { work.new.pushes ≤ work.old.pushes + 1 }
     ensures pushes { Pushes D 1 heap.old heap.new }
+    ensures room { heap.old.capacity ≤ heap.new.capacity }
 {
     work.add_edge(&edge);
     // Whether the sum reaches the greatest number, without forming it.

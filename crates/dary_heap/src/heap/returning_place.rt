@@ -9,6 +9,7 @@ ghost use Rattle.dary_heap.specs.Bag.{IsSameBag};
 ghost use Rattle.dary_heap.specs.Bounds.{RisesWithin, fix_bound, push_bound};
 ghost use Rattle.dary_heap.specs.HeapOrder.{IsHeapOrdered, depth};
 ghost use Rattle.dary_heap.specs.Path.{GoesTo, GoesUp};
+ghost use Rattle.dary_heap.specs.State.{front, front_with};
 
 use super::DaryHeap;
 use crate::sift::{Judge, fix_with, push_reserved_with, sift_to_bottom_with, sift_up_with};
@@ -16,7 +17,8 @@ use std::mem;
 
 impl<T, const D: usize, J: Judge<T>> DaryHeap<T, D, J> {
     /// Adds an item, as [`push`](DaryHeap::push) does, in the room that there is. Returns the place where it stops on
-    /// its way up from the end of the slice.
+    /// its way up from the end of the slice. It becomes the first only if the heap was empty or it is strictly greater
+    /// than the first.
     ///
     /// # Preconditions
     ///
@@ -39,6 +41,8 @@ impl<T, const D: usize, J: Judge<T>> DaryHeap<T, D, J> {
         ensures bag { IsSameBag (item ∷ self.old.items) self.new.items }
         ensures len { length self.new.items ≡ length self.old.items + 1 }
         ensures ordered { IsHeapOrdered J.order D self.new.items }
+        ensures first { front self.new.items
+            ≡ Some (front_with J.order item (front self.old.items)) }
         ensures counted { RisesWithin self.old.comparisons self.new.comparisons
             (push_bound D (length self.old.items)) }
         ensures capacity { self.new.capacity ≡ self.old.capacity }
@@ -81,7 +85,7 @@ impl<T, const D: usize, J: Judge<T>> DaryHeap<T, D, J> {
         // If it was the last item, no other moves, and none is compared.
         ensures last { length self.new.items ≤ place
             → (self.new.items ≡ swap_remove self.old.items place result.0)
-            × (self.new.comparisons ≡ self.old.comparisons) }
+            × (result.1 ≡ place) × (self.new.comparisons ≡ self.old.comparisons) }
         ensures capacity { self.new.capacity ≡ self.old.capacity }
         ensures leaves_room { length self.new.items < self.new.capacity }
     {

@@ -7,4 +7,5 @@ invariant-loop-edge g l = record {
   examined : l.work.examined ≡ l.initial.work.examined ++ take l.edge-index l.edge-items;
   pushed : l.work.pushes + length l.initial.work.examined ≤ l.initial.work.pushes + length l.work.examined;
   pushes : Pushes g.row.D l.edge-index l.initial.heap l.heap;
+  room : l.initial.heap.capacity ≤ l.heap.capacity;
 }

@@ -16,6 +16,7 @@ loop-cost-init g c =
       once = once_begins _ c.args.start (omega (arith, c.requires.start, c.in-Ok.ensures.len, c.in-Ok.found.ok.0, c.args.adj_list.now.ok.0, c.len.ensures)) bag unexamined;
       pushed = omega (arith, c.requires.unpushed, c.add_push.ensures.pushes);
       charged = rw unexamined (charged_begins c.args.heap.now c.push.new.self c.requires.empty (omega (arith, length_permutation _ _ c.in-Ok-push.ensures.bag)) c.in-Ok-push.ensures.counted);
+      room = c.in-Ok-push.ensures.capacity;
     }
 
 pub returns-then-position-goal-clause-least : goal.returns-then-position-goal-clause-least
@@ -35,6 +36,7 @@ loop-cost-preserved-then-cost-index g c =
       once = once_skips before.once c.in-Some.ensures.bag;
       pushed = before.pushed;
       charged = charged_pop before.charged c.in-Some.ensures.bag c.in-Some.ensures.counted;
+      room = omega (arith, before.room, c.in-Some.ensures.capacity);
     }
 
 pub loop-cost-preserved : goal.loop-cost-preserved
@@ -49,6 +51,7 @@ loop-cost-preserved g c =
       once = once_more before.once pop.bag same _ row_is (no_cheaper _ _ (rw g.met.J.JudgesByOrd.by_ord at pop.greatest)) relaxed.ok relaxed.all;
       pushed = omega (arith, before.pushed, relaxed.pushed);
       charged = charged_push (charged_pop before.charged pop.bag pop.counted) relaxed.once;
+      room = omega (arith, before.room, pop.capacity, relaxed.room);
     }
 
 pub returns-in_err-relax-clause-too_large : goal.returns-in_err-relax-clause-too_large

@@ -10,6 +10,7 @@ invariant-loop-cost g l = record {
   once : AreOnce 18446744073709551615 l.adj_list.items l.found.items l.heap.items l.work.examined;
   pushed : l.work.pushes ≤ length l.work.examined + 1;
   charged : IsCharged g.row.D l.fn.heap.comparisons l.heap (length l.work.examined);
+  room : l.fn.heap.capacity ≤ l.heap.capacity;
 }
 
 abbrev pub decreases-loop-cost : goal.decreases-loop-cost
