@@ -28,6 +28,8 @@ pub record IsExtended {T : Type 0} (cmp : T → T → Ordering) (D : ℕ) (old :
   pub len : length new.items ≡ length old.items + length xs
   pub counted : RisesWithin old.comparisons new.comparisons (mend_bound D (length new.items) (length new.items - length old.items))
   pub capacity : old.capacity ≤ new.capacity
+  -- if there was room for all, it stays
+  pub kept : length old.items + length xs ≤ old.capacity → new.capacity ≡ old.capacity
 
 -- an iterator gave what came in, and then an item for which memory allocation failed
 pub record IsExtendedUntilRefused {V S A T : Type 0} (becomes : V → S → Type 0) (steps : S → Option A → S → Type 0) (value : A → T) (cmp : T → T → Ordering) (D : ℕ) (iter : V)

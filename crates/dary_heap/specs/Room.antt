@@ -15,6 +15,7 @@ pub record Reserves {T A B : Type 0} (cmp : T → T → Ordering) (D additional 
   pub succeeds : length old.items + additional ≤ old.capacity → IsOk result
   pub full : OnErr result (old.capacity < length old.items + additional)
   pub unchanged : OnErr result (new ≡ old)
+  pub kept : length old.items + additional ≤ old.capacity → new ≡ old
 
 -- the same with no room beyond
 pub record ReservesExactly {T A B : Type 0} (cmp : T → T → Ordering) (D additional : ℕ) (old new : Contents T) (result : Result A B) : Type 0 where

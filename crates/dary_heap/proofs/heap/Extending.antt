@@ -34,8 +34,8 @@ module _ {S A : Type 0} {can : S → Type 0} (left : S → Count) {steps : S →
 -- items that were put behind those of a heap and mended
 pub mended : {T : Type 0} {cmp : T → T → Ordering} {D : ℕ} (old new : Contents T) (xs now : List T) (start : ℕ) → now ≡ old.items ++ xs → start ≡ length old.items → length now ≡ length new.items →
     IsSameBag now new.items → (start ≡ length now → new.items ≡ now) → IsHeapOrdered cmp D new.items → RisesWithin old.comparisons new.comparisons (mend_bound D (length now) (length now - start)) →
-    old.capacity ≤ new.capacity → IsExtended cmp D old xs new
-mended {D = D} old new xs now start is from long bag still ordered counted capacity = record {
+    old.capacity ≤ new.capacity → (length old.items + length xs ≤ old.capacity → new.capacity ≡ old.capacity) → IsExtended cmp D old xs new
+mended {D = D} old new xs now start is from long bag still ordered counted capacity kept = record {
   bag = rw is at bag;
   unchanged = λ none. let same : now ≡ old.items = is ∙ ap (λ ys. old.items ++ ys) none ∙ append-nil old.items in still (from ∙ ap length (sym same)) ∙ same;
   ordered = ordered;
@@ -43,4 +43,5 @@ mended {D = D} old new xs now start is from long bag still ordered counted capac
   counted = subst (λ n. RisesWithin old.comparisons new.comparisons (mend_bound D n (n - length old.items))) long
       (subst (λ m. RisesWithin old.comparisons new.comparisons (mend_bound D (length now) (length now - m))) from counted);
   capacity = capacity;
+  kept = kept;
 }

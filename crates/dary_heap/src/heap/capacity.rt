@@ -56,6 +56,9 @@ impl<T, const D: usize, J: Judge<T>> DaryHeap<T, D, J> {
     pub fn reserve(&mut self, additional: usize) -> Result<(), AllocError>
         ensures { Reserves J.order D additional self.old self.new result }
     {
+        if additional <= self.items.capacity() - self.items.len() {
+            return Ok(());
+        }
         self.items.reserve(additional)
     }
 

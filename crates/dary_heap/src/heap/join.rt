@@ -149,6 +149,7 @@ fn make_room<T>(items: &mut Vec<T>, others: usize) -> Result<(), AllocError>
     ensures len { vec_len items.new ≡ vec_len items.old }
     ensures room { OnOk result (vec_len items.new < vec_capacity items.new) }
     ensures capacity { vec_capacity items.old ≤ vec_capacity items.new }
+    ensures same_capacity { OnErr result (vec_capacity items.new ≡ vec_capacity items.old) }
 {
     if others == 0 {
         return items.reserve(1);
@@ -168,6 +169,8 @@ fn push_all<T: Drop, X: Element<T>, I: Iterator<Item = X>>(
 ) -> Result<(), AllocError>
     requires { I.can_next iter × IsFinite (I.remaining iter) }
     ensures came { (xs : List X) × (items.new.items ≡ items.old.items ++ map X.value xs)
+        × (vec_len items.old + length xs ≤ vec_capacity items.old
+        → vec_capacity items.new ≡ vec_capacity items.old)
         × MatchResult result (λ _. Drains I.next_gives iter xs)
         (λ _. IsRefusedAfter I.next_gives iter xs (vec_len items.old) (vec_capacity items.old)) }
     ensures capacity { vec_capacity items.old ≤ vec_capacity items.new }

@@ -1,4 +1,4 @@
-use Rattle.dary_heap.proofs.Common.{◌≡◌, ◌++◌, length, take, map, vec_capacity, sym, ap, ◌∙◌, subst, IsExtended, IsHeapOrdered, MatchResult-weaker, arith, common_steps}
+use Rattle.dary_heap.proofs.Common.{◌≡◌, ◌++◌, length, length-map, take, map, vec_capacity, sym, ap, ◌∙◌, subst, IsExtended, IsHeapOrdered, MatchResult-weaker, arith, common_steps}
 use Rattle.dary_heap.proofs.heap.Extending.{Yields-front, mended}
 use Rattle.dary_heap.proofs.sift.Written.{written_back}
 use Rattle.dary_heap.proofs.heap.join.extend_heap.Goals.{After-mend_with}
@@ -28,6 +28,7 @@ taken : (g : _) (c : After-mend_with g) → IsExtended g.J.Judge.order g.row.D
     (record { items = c.mend_with.new.items; capacity = vec_capacity c.push_all-outcome.new.items; comparisons = g.J.Judge.count c.mend_with.new.judge })
 taken g c = mended _ _ _ _ c.len-start.result (behind g c) (start g c) (sym c.mend_with.auto.items) c.mend_with.ensures.bag c.mend_with.ensures.unchanged
     (ordered g c) c.mend_with.ensures.counted c.push_all-outcome.ensures.capacity
+    (λ fits. c.push_all-outcome.ensures.came.2 (omega (arith, fits, c.heap.inside.items.ok.0, length-map c.push_all-outcome.ensures.came.0 g.X.Element.value)))
 
 -- the heap is ordered at the end
 pub invariant_of-heap : goal.invariant_of-heap
@@ -39,7 +40,7 @@ pub returns-clause-refused : goal.returns-clause-refused
 returns-clause-refused g c =
     let k = c.push_all-outcome.ensures.came in
     let here = (goal.at.returns-clause-refused g c).After-mend_with in
-    rw (← c.heap.view_is) (MatchResult-weaker c.push_all-outcome.result k.2 (λ u drains. tt) (λ e refusal. record {
+    rw (← c.heap.view_is) (MatchResult-weaker c.push_all-outcome.result k.3 (λ u drains. tt) (λ e refusal. record {
       from = c.into_iter-iter.result;
       came = k.0;
       begins = c.into_iter-iter.ensures.into_iter_gives;
@@ -57,7 +58,7 @@ returns-clause-ran g c =
       k.0,
       c.into_iter-iter.ensures.into_iter_gives,
       rw (written_back _ _ _ (all g here)) (taken g here),
-      MatchResult-weaker c.push_all-outcome.result k.2 (λ u drains. drains)
+      MatchResult-weaker c.push_all-outcome.result k.3 (λ u drains. drains)
           (λ e refused. Yields-front g.U.IntoIter.Iterator.next_gives c.into_iter-iter.result k.0 refused.refused refused.left refused.gave),
     )
 
