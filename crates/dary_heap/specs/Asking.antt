@@ -1,5 +1,5 @@
 -- The precondition of a run: its predicates may be called on the items that come up in it.
-use Rattle.std.specs.Prelude.{◌≡◌, Bool, List, [], ◌∷◌, ◌++◌, Contains}
+use Rattle.std.specs.Prelude.{◌≡◌, Bool, List, [], ◌∷◌, ◌++◌, Contains, Some, slice_get}
 use Rattle.std.specs.Fn.{Mut, TakesAt, CalledAt}
 use denote.Ref.{Bor}
 use Rattle.dary_heap.specs.Machine.{Act, Write, Refresh, Command, Push, PopIf, Ask, Retain, Extend, Append, Loan}
@@ -23,6 +23,12 @@ module _ {T P : Type 0} (calls : Mut P (Bor T × Unit {0}) Bool) where
     pub pop_if : (p : P) → command ≡ PopIf p → IsCallableOnce items p
     pub ask : (p : P) → command ≡ Ask p → IsCallableOnce items p
     pub retain : (p : P) → command ≡ Retain p → IsCallableOn items p
+
+  -- what one step of a run asks: the predicate of a `PopIf` or an `Ask` about the front, if there is one, once, and that of a `Retain` about each item in turn. Only private functions speak of it
+  pub record MayServe (items : List T) (command : Command T P) : Type 0 where
+    pub pop_if : (p : P) → command ≡ PopIf p → (x : T) → slice_get items 0 ≡ Some x → TakesAt calls p x
+    pub ask : (p : P) → command ≡ Ask p → (x : T) → slice_get items 0 ≡ Some x → TakesAt calls p x
+    pub retain : (p : P) → command ≡ Retain p → TakesInTurn p items
 
 -- the items that acts on a loan hold
 abbrev pub written : {T : Type 0} → List (Act T) → List T

@@ -6,7 +6,7 @@
 //! other exceeds: a question is about the front, and a pop returns it.
 ghost use Rattle.std.specs.Prelude.{◌≡◌, ◌⊎◌, ◌++◌, ◌∷◌, [], length, slice_get, All, Bool, Some, None, IfOk, IfErr, IsOk};
 ghost use Rattle.std.specs.Fn.{CalledAt, FnOnceTakesAt, FnOnceReturnsAt};
-ghost use Rattle.dary_heap.specs.Asking.{MayCall, items_in};
+ghost use Rattle.dary_heap.specs.Asking.{MayCall, MayServe, items_in};
 ghost use Rattle.dary_heap.specs.HeapOrder.{IsHeapOrdered};
 ghost use Rattle.dary_heap.specs.Machine as machine;
 ghost use Rattle.dary_heap.specs.Reading as read;
@@ -210,7 +210,7 @@ fn serve<T: Ord + Drop, const D: usize, P: FnMut(&T) -> bool>(
     heap: &mut DaryHeap<T, D>,
     command: Command<T, D, P>,
 ) -> Reply<T, D>
-    requires { MayCall P.FnMut heap.old.items (read.command command) }
+    requires { MayServe P.FnMut heap.old.items (read.command command) }
     ensures { Serves T.cmp (CalledAt P.FnMut) D heap.old (read.command command)
         (read.reply result) heap.new }
 {

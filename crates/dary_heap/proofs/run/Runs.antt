@@ -1,7 +1,7 @@
 -- A run goes on by one command. What it asks of the caller, and the items that it brings in, are among those of all commands.
 use Rattle.dary_heap.proofs.Common.{◌≡◌, ℕ, ◌+◌, ◌≤◌, Bool, List, [], ◌∷◌, ◌++◌, length, refl, ap, arith, Ordering, charge, Contents, Command, Reply, Step, Steps, last_state, IsState, IsServed}
 use Rattle.dary_heap.proofs.Common.{Runs, Serves, room, sure_after, All, Contains, sym, subst, append_assoc, All-contains, Contains-append_left}
-use Rattle.dary_heap.proofs.Common.{Contains-append_right, Mut, Bor, MayCall, items_in, zero-le}
+use Rattle.dary_heap.proofs.Common.{Contains-append_right, Mut, Bor, MayCall, MayServe, items_in, zero-le, Some, slice_get, slice_get_within, get_or_from_slice_get}
 use Rattle.dary_heap.specs.Bounds.{charges}
 use Rattle.dary_heap.specs.Run.{PushesServed, sure_at_end}
 use Rattle.dary_heap.specs.Machine as machine
@@ -73,17 +73,15 @@ module _ {T P : Type 0} where
   items_of_one before command after x in' = of_one items_in items_in-append before command after x in'
 
   module _ (calls : Mut P (Bor T × Unit {0}) Bool) where
-    -- a predicate that may be called on many items may be called on those that are among them
-    MayCall-fewer : (pool items : List T) (command : Command T P) → ((x : T) → Contains items x → Contains pool x) → MayCall calls pool command → MayCall calls items command
-    MayCall-fewer pool items command among h = record {
-      pop_if = λ p is x in'. h.pop_if p is x (among x in');
-      ask = λ p is x in'. h.ask p is x (among x in');
-      retain = λ p is. record { in_turn = λ xs in'. (h.retain p is).in_turn xs (λ x here. among x (in' x here)) };
-    }
-
-    -- the predicate of one command may be called where those of all may be
+    -- the predicate of one command may be called on the front and on each item in turn, if it may be on any items that are among these
     pub callable_one : (pool items : List T) (before : List (Command T P)) (command : Command T P) (after : List (Command T P)) → ((x : T) → Contains items x → Contains pool x) →
-        All (MayCall calls pool) (before ++ (command ∷ after)) → MayCall calls items command
+        All (MayCall calls pool) (before ++ (command ∷ after)) → MayServe calls items command
     callable_one pool items before command after among h =
         let there : Contains (before ++ (command ∷ after)) command = Contains-append_right before (command ∷ after) command (0, omega arith, refl) in
-        MayCall-fewer pool items command among (All-contains (MayCall calls pool) _ command h there)
+        let may = All-contains (MayCall calls pool) _ command h there in
+        let on_front : (x : T) → slice_get items 0 ≡ Some x → Contains pool x = λ x is. among x (0, slice_get_within items 0 x is, get_or_from_slice_get items 0 x x is) in
+        record {
+          pop_if = λ p is x first. may.pop_if p is x (on_front x first);
+          ask = λ p is x first. may.ask p is x (on_front x first);
+          retain = λ p is. (may.retain p is).in_turn items among;
+        }

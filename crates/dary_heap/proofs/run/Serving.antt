@@ -1,6 +1,6 @@
 -- What one command makes of a heap, from the contract of the call that carries it out.
 use Rattle.dary_heap.proofs.{◌≡◌, ℕ, ◌≤◌, ◌↔◌, Bool, List, [], ◌∷◌, ◌++◌, length, IsPermutation, Contains, refl, subst, arith, Option, Some, None, IfSome, IfNone, slice_get, sym, inl, inr, true}
-use Rattle.dary_heap.proofs.{false, IsTotalOrder, Mut, Called, CalledAt, TakesAt, Contains-append_left, slice_get_within, get_or_from_slice_get, length_permutation, Ordering, IsCallableOnce}
+use Rattle.dary_heap.proofs.{false, IsTotalOrder, Mut, Called, CalledAt, Contains-append_left, length_permutation, Ordering}
 use Rattle.dary_heap.proofs.{RisesWithin, pop_bound, charge, Contents, IsHeapOrdered, Command, Reply, Pop, Ask, Popped, Asked, Step, IsServed, Serves, room, sure_after, front, suc, ◌-◌, if◌then◌else◌}
 use Rattle.dary_heap.proofs.{min, ap, ◌∙◌, length-append, append-nil, mul-le-mul_right, Contains-append_right, IsPermutation-sym, Contains-permutation, Bor, items_where_true, IsSameBag, IsGreatest}
 use Rattle.dary_heap.proofs.{mend_bound, IsExtended, first_no, depth, PopIf, Retain, Extend, Append, Done, IsJoined, nat_tests, ◌≢◌, le_refl, zero-le, true≢false, IsSameState, IsAmong, IsAmong-same}
@@ -133,10 +133,6 @@ module _ {X P : Type 0} {cmp : X → X → Ordering} {calls : P → X → Bool �
 
 -- a predicate that is called once at most, on the front
 module _ {X P : Type 0} (calls : Mut P (Bor X × Unit {0}) Bool) where
-  -- it may be called there, where it may be called on any item
-  pub callable_on_front : (items : List X) (p : P) → IsCallableOnce calls items p → (f : X) → front items ≡ Some f → TakesAt calls p f
-  callable_on_front items p h f is = h f (0, slice_get_within items 0 f is, get_or_from_slice_get items 0 f f is)
-
   -- p was asked about a reference to item
   abbrev pub Told : P → X → Bool → Type 0
   Told p item answer = (shown : Bor X) × calls.post p (shown, tt) answer × (shown.now ≡ item)

@@ -1,20 +1,19 @@
 use Rattle.dary_heap.proofs.{ap, arith, inr, le_refl, refl, zero-le, same_state}
 use Rattle.dary_heap.specs.Reading as read
-use Rattle.dary_heap.proofs.run.Serving.{asks, callable_on_front, pops_where, retained, serves_emptied, serves_same}
+use Rattle.dary_heap.proofs.run.Serving.{asks, pops_where, retained, serves_emptied, serves_same}
 use Rattle.dary_heap.proofs.run.serve.Goals as goal
 
 pub pop_if-requires : goal.pop_if-requires
 pop_if-requires g c =
-    (assumption, callable_on_front g.P.FnMut c.args.heap.now.items c.in-PopIf.predicate (c.requires.pop_if c.in-PopIf.predicate (ap read.command c.in-PopIf.is)))
+    (assumption, c.requires.pop_if c.in-PopIf.predicate (ap read.command c.in-PopIf.is))
 
 pub ask-requires : goal.ask-requires
 ask-requires g c =
-    (assumption, callable_on_front g.P.FnMut c.args.heap.now.items c.in-Ask.predicate (c.requires.ask c.in-Ask.predicate (ap read.command c.in-Ask.is)))
+    (assumption, c.requires.ask c.in-Ask.predicate (ap read.command c.in-Ask.is))
 
 pub retain-requires : goal.retain-requires
 retain-requires g c =
-    let callable = c.requires.retain c.in-Retain.predicate (ap read.command c.in-Retain.is) in
-    (assumption, inr (callable.in_turn c.args.heap.now.items (λ x in'. in')))
+    (assumption, inr (c.requires.retain c.in-Retain.predicate (ap read.command c.in-Retain.is)))
 
 pub returns-in-PopIf : goal.returns-in-PopIf
 returns-in-PopIf g c =
