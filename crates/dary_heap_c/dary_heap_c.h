@@ -191,7 +191,7 @@ DARY_HEAP_MUST_USE bool dheap_min_remove_sequenced(struct dheap_sequenced *items
 
 /* dheap_max_mend_*, dheap_min_mend_*: the items before `start` are a heap, and those from there on were written
  * behind them. All are a heap afterwards. Returns false if the start is above len. If it is len, nothing is to be
- * done.
+ * done. By which way it makes the heap isn't promised: the cost alone is.
  *
  * Cost: the greater of that of a make and, for each item from `start` on, the depth of place len - 1. None if
  * start is len. */
@@ -207,8 +207,8 @@ DARY_HEAP_MUST_USE bool dheap_max_mend_sequenced(struct dheap_sequenced *items, 
 DARY_HEAP_MUST_USE bool dheap_min_mend_sequenced(struct dheap_sequenced *items, size_t len, size_t arity, size_t start);
 
 /* dheap_max_sort_heap_*, dheap_min_sort_heap_*: sorts a heap. What comes first in the heap is last afterwards: a
- * max-heap ascends, and a min-heap descends. The items are no heap any more. Items that aren't a heap are moved
- * and not sorted: dheap_max_sort_* sorts any items.
+ * max-heap ascends, and a min-heap descends. Of items that aren't a heap no order is promised afterwards:
+ * dheap_max_sort_* sorts any items.
  *
  * Cost: that of a pop at each length from len down to 2. */
 DARY_HEAP_MUST_USE bool dheap_max_sort_heap_i64(int64_t *items, size_t len, size_t arity);

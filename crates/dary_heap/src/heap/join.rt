@@ -17,10 +17,10 @@ use std::mem;
 impl<T, const D: usize, J: Judge<T>> DaryHeap<T, D, J> {
     /// Moves all items of `other` into this heap, and leaves `other` empty.
     ///
-    /// The items of the shorter heap go behind those of the longer one: if `other` is the longer, the two exchange
-    /// their vectors first, and so their capacities. If `other` is empty, this heap's slice stays as it is. This
-    /// heap makes as many comparisons as [`mend_with`](crate::sift::mend_with) of as many items as the shorter heap
-    /// has, and `other` makes none.
+    /// The items of the shorter heap go behind those of the longer one: if `other` is the longer, room is made in its
+    /// vector, and then the two exchange their vectors, and so their capacities. If `other` is empty, this heap's slice
+    /// stays as it is. This heap makes as many comparisons as [`mend_with`](crate::sift::mend_with) of as many items as
+    /// the shorter heap has, and `other` makes none.
     ///
     /// # Errors
     ///

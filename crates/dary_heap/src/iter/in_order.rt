@@ -85,7 +85,7 @@ impl<T, const D: usize, J: Judge<T>> DaryHeap<T, D, J> {
     /// Equal items come in any order. The iterator compares by a clone of the heap's judge, so nothing is added to
     /// the heap's count. For the first `k` items it takes *O*(*k* *D* log (*k* *D*)), however long the heap is.
     /// `RULES.md` has the bound of each `next` as a number. To see all items of a long heap,
-    /// [`into_iter_sorted`](DaryHeap::into_iter_sorted) of a clone takes 0.6 to 0.2 of the time.
+    /// [`into_iter_sorted`](DaryHeap::into_iter_sorted) of a clone takes 0.16 to 0.6 of the time.
     ///
     /// # Errors
     ///
