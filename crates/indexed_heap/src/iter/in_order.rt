@@ -90,6 +90,60 @@ impl<T, const D: usize, J: Judge<T>> IndexedHeap<T, D, J> {
             entries: self.entries.iter_sorted(alloc, most)?,
         })
     }
+
+    /// Returns an iterator over the keys of the greatest `most` items, as [`iter_sorted`](IndexedHeap::iter_sorted)
+    /// does, that compares by the given judge. It is dropped if memory allocation fails.
+    ///
+    /// # Examples
+    ///
+    /// ```
+    /// use dary_heap::sift::Tally;
+    /// use indexed_heap::IndexedHeap;
+    /// let mut heap = IndexedHeap::<_, 2, _>::with_judge(alloc, Tally::new());
+    /// for (key, item) in [3, 8, 5, 1].into_iter().enumerate() {
+    ///     heap.insert(key, item)?;
+    /// }
+    /// let mut entries = heap.iter_sorted_with(alloc, 2, Tally::new())?;
+    /// assert_eq!(rt; entries.next(), Some((1, &8)));
+    /// assert_eq!(rt; entries.judge().made(), 1);
+    /// ```
+    pub fn iter_sorted_with(
+        &self,
+        alloc: Global,
+        most: usize,
+        judge: J,
+    ) -> Result<IterSorted<'_, T, D, J>, AllocError>
+    where
+        J: Drop,
+        ensures starts { IfOk result (StartsInOrder D most self.now.entries) }
+        ensures comparisons { IfOk result (λ it. it.comparisons ≡ J.count judge) }
+        ensures succeeds { min most (length self.now.entries) ≡ 0 → IsOk result }
+        ensures greatest { IfOk result (GivesGreatest (shown {T = T}) (by_item J.order) D) }
+    {
+        let judge = ByItem { items: judge };
+        Ok(IterSorted {
+            entries: self.entries.iter_sorted_with(alloc, most, judge)?,
+        })
+    }
+}
+
+impl<'a, T, const D: usize, J: Judge<T>> IterSorted<'a, T, D, J> {
+    /// Returns the judge by which the iterator compares, as to read its count. Makes no comparison.
+    ///
+    /// # Examples
+    ///
+    /// ```
+    /// use dary_heap::sift::Tally;
+    /// use indexed_heap::IndexedHeap;
+    /// let mut heap = IndexedHeap::<_, 2, _>::with_judge(alloc, Tally::new());
+    /// heap.insert(6, 5)?;
+    /// assert_eq!(rt; heap.iter_sorted_with(alloc, 2, Tally::new())?.judge().made(), 0);
+    /// ```
+    pub fn judge(&self) -> &J
+        ensures { J.count result.now ≡ self.now.comparisons }
+    {
+        &self.entries.judge().items
+    }
 }
 
 impl<'a, T, const D: usize, J: Judge<T> + Drop> Iterator for IterSorted<'a, T, D, J> {
