@@ -20,6 +20,7 @@ mod capacity;
 mod convert;
 mod filter;
 mod join;
+mod key;
 mod place;
 mod returning_place;
 

@@ -1,6 +1,7 @@
 pub mod Placing
 pub mod Changing
 pub mod Removing
+pub mod Renaming
 pub mod Bounding
 pub mod Sound
 pub mod Raising

@@ -6,4 +6,5 @@ pub mod Keys
 pub mod Lowering
 pub mod Making
 pub mod Places
+pub mod Renaming
 pub mod Showing

@@ -17,6 +17,7 @@ mod capacity;
 mod change;
 mod convert;
 mod remove;
+mod rename;
 
 /// A priority queue of items with keys. [`pop`](IndexedHeap::pop) returns an entry, a key with its item, of which the
 /// item is a greatest one: no other is strictly greater.

@@ -35,23 +35,8 @@
 //! assert_eq!(rt; next, Some("cook"));
 //! ```
 //!
-//! If you have names, a map has the number of each, in the order in which they came:
-//!
-//! ```
-//! use indexed_heap::IndexedHeap;
-//! use std::collections::BTreeMap;
-//! let (mut names, mut numbers) = (Vec::new(alloc), BTreeMap::new(alloc));
-//! let mut queue = IndexedHeap::<u8, 4>::new(alloc);
-//! for (name, priority) in [("ann", 1), ("bob", 5), ("ann", 7)] {
-//!     let number = *numbers.entry(name)?.or_insert(names.len());
-//!     if number == names.len() {
-//!         names.push(name)?;
-//!     }
-//!     queue.insert(number, priority)?;
-//! }
-//! assert_eq!(rt; queue.pop().map(|(number, _)| names[number]), Some("ann"));
-//! assert_eq!(rt; queue.len(), 1);
-//! ```
+//! If you have names, as texts, pairs or ids, take a heap of the crate `named_heap`, which finds items by them. It numbers
+//! them without gaps: a name that leaves gives its number to the last one, by [`rename`](IndexedHeap::rename).
 //!
 //! # Costs
 //!
@@ -68,7 +53,7 @@
 //! | an item of [`into_iter_sorted`](IndexedHeap::into_iter_sorted) | as `pop` |
 //! | an item of [`iter_sorted`](IndexedHeap::iter_sorted), [`iter_sorted_with`](IndexedHeap::iter_sorted_with) | a pop and `D` pushes in a heap of arity 4 of the `1 + (D - 1) * k` that may come after `k` items |
 //! | `clone` of the trait `Clone`, for another judge than `ByOrd` | `2 * (n - 1)` |
-//! | [`get`](IndexedHeap::get), [`peek`](IndexedHeap::peek), [`iter`](IndexedHeap::iter), [`drain`](IndexedHeap::drain), [`clone`](IndexedHeap::clone), [`reserve`](IndexedHeap::reserve) and the heap's other methods | none |
+//! | [`get`](IndexedHeap::get), [`peek`](IndexedHeap::peek), [`iter`](IndexedHeap::iter), [`drain`](IndexedHeap::drain), [`rename`](IndexedHeap::rename), [`clone`](IndexedHeap::clone), [`reserve`](IndexedHeap::reserve) and the heap's other methods | none |
 //!
 //! # Modules
 //!

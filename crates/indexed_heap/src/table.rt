@@ -3,7 +3,7 @@
 //! `places[key]` is the place of the entry with that key; of a key without an entry it may be any number. The heap says
 //! where it moved an entry, and only entries on that path have moved. Their places are written afterwards: each once,
 //! and none waits for another.
-ghost use Rattle.std.specs.Prelude.{ℕ, max, ◌↔◌, IsTrue, ◌≡◌, ◌+◌, ◌<◌, ◌⊎◌, ◌∷◌, length, slice_get, vec_len, Some, IfSome, IfNone, IfOk, OnOk, OnErr, IfErr, IsOk, is_ok, Contains, slice_index_or, ◌≢◌, ◌≤◌};
+ghost use Rattle.std.specs.Prelude.{ℕ, max, ◌↔◌, IsTrue, ◌≡◌, ◌+◌, ◌<◌, ◌⊎◌, ◌∷◌, length, slice_get, vec_len, Some, IfSome, IfNone, IfOk, OnOk, OnErr, IfErr, IsOk, is_ok, Contains, slice_index_or, ◌≢◌, ◌≤◌, set};
 ghost use Rattle.std.specs.Bool.{OnTrue, OnFalse};
 ghost use Rattle.std.specs.declared.cmp.Ordering.TheVariants.{Greater};
 ghost use Rattle.dary_heap.specs.Bag.{IsSameBag};
@@ -256,4 +256,29 @@ pub(crate) fn lift<T: Drop, J: Judge<(usize, T)>, const D: usize>(
     };
     write_path::<T, D>(entries.as_slice(), places, at, stop);
     true
+}
+
+/// Gives an entry another key, which none has.
+#[inline]
+pub(crate) fn rekey<T, J: Judge<(usize, T)>, const D: usize>(
+    entries: &mut DaryHeap<(usize, T), D, J>,
+    places: &mut [usize],
+    at: usize,
+    to: usize,
+)
+    requires inside { at < length entries.old.items }
+    requires keyed { to < length places.old }
+    requires right { AreRight entries.old.items places.old }
+    requires free { IsAbsent to entries.old.items }
+    requires ordered { (entry : ℕ × T) → slice_get entries.old.items at ≡ Some entry
+        → IsHeapOrdered J.order D (set entries.old.items at (to, entry.1)) }
+    ensures entries { (entry : ℕ × T) → slice_get entries.old.items at ≡ Some entry
+        → entries.new.items ≡ set entries.old.items at (to, entry.1) }
+    ensures ordered { IsHeapOrdered J.order D entries.new.items }
+    ensures uncounted { entries.new.comparisons ≡ entries.old.comparisons }
+    ensures right { AreRight entries.new.items places.new }
+    ensures capacity { entries.new.capacity ≡ entries.old.capacity }
+{
+    entries.replace_key_at(at, to);
+    places[to] = at;
 }

@@ -1,5 +1,6 @@
 //! Times heaps whose items have keys side by side: the `IndexedHeap` of this repository, boost's, a `BTreeSet`, and a
-//! `DaryHeap` with stale entries. README.md of the bench says how.
+//! `DaryHeap` with stale entries. And those whose items have names: the `NamedHeap`, and two with a map. README.md of the
+//! bench says how.
 
 #[path = "../../memory.rs"]
 mod memory;
@@ -26,8 +27,8 @@ use std::time::{Duration, Instant};
 use table::Times;
 use workload::{Call, Task, Workload, WORKLOADS};
 
-const USAGE: &str = "usage: keyed [SIZE..] [WORKLOAD..] [counts]
-With counts it counts in searches in place of timing.";
+const USAGE: &str = "usage: keyed [SIZE..] [WORKLOAD..] [counts|names]
+With counts it counts in searches in place of timing. With names it times heaps whose items have names.";
 
 /// For how long a row is measured at least, if its runs are short.
 const AT_LEAST: Duration = Duration::from_millis(300);
@@ -36,12 +37,13 @@ const ENOUGH: Duration = Duration::from_secs(3);
 const FEWEST: usize = 2;
 const MOST: usize = 9;
 
-/// What the user asks for: the numbers of keys, the workloads, and whether to count.
+/// What the user asks for: the numbers of keys, the workloads, and whether to count, or to time heaps by name.
 #[derive(Default)]
 struct Wanted {
     sizes: Vec<usize>,
     names: Vec<&'static str>,
     counts: bool,
+    by_name: bool,
 }
 
 impl Wanted {
@@ -53,6 +55,7 @@ impl Wanted {
             match word.parse() {
                 Ok(size) if size > 0 => wanted.sizes.push(size),
                 _ if word == "counts" => wanted.counts = true,
+                _ if word == "names" => wanted.by_name = true,
                 _ => wanted.names.push(named?.name),
             }
         }
@@ -61,7 +64,8 @@ impl Wanted {
 
     fn has(&self, workload: &Workload) -> bool {
         let is_named = self.names.is_empty() || self.names.contains(&workload.name);
-        is_named && (!self.counts || workload.call == Call::Search)
+        let is_search = workload.call == Call::Search;
+        is_named && (is_search || !self.counts) && !(is_search && self.by_name)
     }
 
     /// The workloads with their numbers of keys.
@@ -92,11 +96,14 @@ fn main() -> ExitCode {
         }
         return ExitCode::SUCCESS;
     }
-    println!("{}", table::header());
+    println!("{}", table::header(wanted.by_name));
     let mut status = ExitCode::SUCCESS;
     for (workload, keys) in wanted.rows() {
-        match measured(&workload, keys) {
-            Ok(times) => println!("{}", table::row(workload.name, keys, &times)),
+        match measured(&workload, keys, wanted.by_name) {
+            Ok(times) => {
+                let row = table::row(workload.name, keys, &times, wanted.by_name);
+                println!("{row}");
+            }
             Err(fault) => {
                 println!("FAULT {} {keys}: {fault}", workload.name);
                 status = ExitCode::FAILURE;
@@ -107,16 +114,16 @@ fn main() -> ExitCode {
 }
 
 /// The nanoseconds of each rival. From pops the time of the pushes is taken off, from searches that of the graph.
-fn measured(workload: &Workload, keys: usize) -> Result<Times, String> {
+fn measured(workload: &Workload, keys: usize, by_name: bool) -> Result<Times, String> {
     let tasks = workload.tasks(keys);
-    let mut times = times(workload.call, &tasks)?;
+    let mut times = times(workload.call, &tasks, by_name)?;
     let set_up = match workload.call {
         Call::Pop => Some((Call::Push, tasks.clone())),
         Call::Search => Some((Call::Search, tasks.iter().map(Task::without_goal).collect())),
         _ => None,
     };
     if let Some((call, tasks)) = set_up {
-        let pairs = times.into_iter().zip(self::times(call, &tasks)?);
+        let pairs = times.into_iter().zip(self::times(call, &tasks, by_name)?);
         let rests = pairs.map(|((rival, time), (_, less))| (rival, rest(time, less)));
         times = rests
             .filter_map(|(rival, time)| Some((rival, time?)))
@@ -135,9 +142,10 @@ fn rest(time: Duration, less: Duration) -> Option<Duration> {
 
 /// The least time of each rival over all inputs. In a round each makes one run, and each round begins with another of
 /// them.
-fn times(call: Call, tasks: &[Task]) -> Result<Vec<(Rival, Duration)>, String> {
+fn times(call: Call, tasks: &[Task], by_name: bool) -> Result<Vec<(Rival, Duration)>, String> {
     let wanted: Vec<_> = tasks.iter().map(|task| wanted(call, task)).collect();
-    let there = rivals(call).into_iter().filter(|(heap, _)| heap.is_there());
+    let rivals = rivals(call, by_name).into_iter();
+    let there = rivals.filter(|(heap, _)| heap.is_there());
     let mut times: Vec<_> = there.map(|rival| (rival, Duration::MAX)).collect();
     let begun = Instant::now();
     let mut round = 0;

@@ -5,6 +5,7 @@
 #include <cstddef>
 #include <cstdint>
 #include <new>
+#include <unordered_map>
 #include <vector>
 
 #if __has_include(<boost/heap/d_ary_heap.hpp>)
@@ -107,6 +108,49 @@ template <unsigned D, typename Compare = Less> class Heap {
     }
 };
 
+// The heap, with a map from each name to its handle. The name of a key is far from those of its neighbours.
+class Named {
+    using Boosted = boost::heap::d_ary_heap<Entry, boost::heap::arity<4>, boost::heap::compare<Less>,
+                                            boost::heap::mutable_<true>>;
+
+    // An odd number, and the one by which its product wraps to 1.
+    static constexpr std::uint64_t FACTOR = 0x9e3779b97f4a7c15, INVERSE = 0xf1de83e19937733d;
+
+    Boosted heap;
+    std::unordered_map<std::uint64_t, Boosted::handle_type> names;
+
+  public:
+    explicit Named(std::size_t count) {
+        heap.reserve(count);
+        names.reserve(count);
+    }
+
+    void set(std::size_t key, std::uint64_t item) {
+        const auto [at, is_new] = names.try_emplace(key * FACTOR);
+        if (is_new)
+            at->second = heap.push({item, at->first});
+        else
+            heap.update(at->second, {item, at->first});
+    }
+
+    void cancel(std::size_t key) {
+        const auto at = names.find(key * FACTOR);
+        if (at == names.end())
+            return;
+        heap.erase(at->second);
+        names.erase(at);
+    }
+
+    bool empty() const { return heap.empty(); }
+
+    Entry pop() {
+        const Entry entry = heap.top();
+        heap.pop();
+        names.erase(entry.key);
+        return {entry.item, entry.key * INVERSE};
+    }
+};
+
 template <typename H> H pushed(const Given &given) {
     H heap(given.len);
     for (std::size_t key = 0; key < given.len; key++)
@@ -198,8 +242,7 @@ template <typename H> std::uint64_t count(const Given &given) {
     return 2;
 }
 
-template <unsigned D> std::uint64_t work(Call call, const Given &given) {
-    using H = Heap<D>;
+template <typename H> std::uint64_t work_on(Call call, const Given &given) {
     switch (call) {
     case PUSH:
         return pop<H>(pushed<H>(given), given.out, 1);
@@ -209,18 +252,28 @@ template <unsigned D> std::uint64_t work(Call call, const Given &given) {
         return cancel<H>(given);
     case REPRIORITISE:
         return reprioritise<H>(given);
-    case SEARCH:
-        return search<H>(given);
-    case COUNT:
-        return count<Heap<D, Tally>>(given);
     default:
         return REFUSED;
     }
 }
 
+template <unsigned D> std::uint64_t work(Call call, const Given &given) {
+    switch (call) {
+    case SEARCH:
+        return search<Heap<D>>(given);
+    case COUNT:
+        return count<Heap<D, Tally>>(given);
+    default:
+        return work_on<Heap<D>>(call, given);
+    }
+}
+
 #else
 
+class Named;
+
 template <unsigned D> std::uint64_t work(Call, const Given &) { return REFUSED; }
+template <typename H> std::uint64_t work_on(Call, const Given &) { return REFUSED; }
 
 #endif
 
@@ -242,4 +295,15 @@ extern "C" std::uint64_t keyed_boost(std::size_t call, std::size_t arity, const 
     } catch (const std::bad_alloc &) {
     }
     return REFUSED;
+}
+
+extern "C" std::uint64_t named_boost(std::size_t call, std::size_t, const std::uint64_t *items, std::size_t len,
+                                     const Change *changes, std::size_t changes_len, std::size_t degree,
+                                     std::uint64_t *out, std::size_t) {
+    const Given given = {items, len, changes, changes_len, degree, out};
+    try {
+        return work_on<Named>(static_cast<Call>(call), given);
+    } catch (const std::bad_alloc &) {
+        return REFUSED;
+    }
 }

@@ -1,4 +1,5 @@
-//! Those that are timed: this heap, boost's, a `BTreeSet`, and a `DaryHeap` in which stale entries stay.
+//! Those that are timed: this heap, boost's, a `BTreeSet`, and a `DaryHeap` in which stale entries stay. Of names: the
+//! `NamedHeap`, one by hand, and boost's with a map.
 
 use crate::pairs;
 use crate::workload::{Call, Change, Task};
@@ -12,6 +13,9 @@ pub enum Heap {
     Boost,
     Set,
     Stale,
+    Named,
+    ByHand,
+    BoostNamed,
 }
 
 /// A heap, and its arity. That of a set is any.
@@ -46,9 +50,9 @@ macro_rules! linked {
     )*};
 }
 
-linked!(bench_indexed bench_stale bench_search);
+linked!(bench_indexed bench_stale bench_search bench_named bench_by_hand);
 #[cfg(has_cpp)]
-linked!(keyed_boost);
+linked!(keyed_boost named_boost);
 
 impl Heap {
     /// The arities at which it does a workload: `shortest_path`, the search with stale entries, has one of its own.
@@ -56,6 +60,7 @@ impl Heap {
         match (self, call) {
             (Heap::Set, _) => &[0],
             (Heap::Stale, Call::Search) => &[3],
+            (Heap::Named | Heap::ByHand | Heap::BoostNamed, _) => &[4],
             _ => &ARITIES,
         }
     }
@@ -72,11 +77,15 @@ impl Heap {
     }
 }
 
-/// All that do a workload.
-pub fn rivals(call: Call) -> Vec<Rival> {
-    let heaps = [Heap::Here, Heap::Boost, Heap::Stale, Heap::Set];
+/// All that do a workload, by keys or by names.
+pub fn rivals(call: Call, by_name: bool) -> Vec<Rival> {
+    let heaps: &[Heap] = if by_name {
+        &[Heap::Named, Heap::ByHand, Heap::BoostNamed]
+    } else {
+        &[Heap::Here, Heap::Boost, Heap::Stale, Heap::Set]
+    };
     let at_arities = |heap: Heap| heap.arities(call).iter().map(move |arity| (heap, *arity));
-    heaps.into_iter().flat_map(at_arities).collect()
+    heaps.iter().copied().flat_map(at_arities).collect()
 }
 
 /// Does a workload, and returns its time. None if it is refused.
@@ -85,9 +94,13 @@ pub fn run((heap, arity): Rival, call: Call, task: &Task, out: &mut [u64]) -> Op
     let answer = match (heap, call) {
         #[cfg(has_cpp)]
         (Heap::Boost, _) => keyed_boost(call, arity, task, out),
+        #[cfg(has_cpp)]
+        (Heap::BoostNamed, _) => named_boost(call, arity, task, out),
         #[cfg(not(has_cpp))]
-        (Heap::Boost, _) => u64::MAX,
+        (Heap::Boost | Heap::BoostNamed, _) => u64::MAX,
         (Heap::Set, _) => pairs::work(call, task, out),
+        (Heap::Named, _) => bench_named(call, arity, task, out),
+        (Heap::ByHand, _) => bench_by_hand(call, arity, task, out),
         (_, Call::Search | Call::Count) => bench_search(call, arity, task, out),
         (Heap::Here, _) => bench_indexed(call, arity, task, out),
         (Heap::Stale, _) => bench_stale(call, arity, task, out),

@@ -15,7 +15,14 @@ const DIVISORS: [(Heap, &str); 3] = [
     (Heap::Stale, "`DaryHeap`"),
 ];
 
-pub fn header() -> String {
+/// The same among heaps by name.
+const NAME_DIVISORS: [(Heap, &str); 2] = [(Heap::ByHand, "by hand"), (Heap::BoostNamed, "boost")];
+
+pub fn header(by_name: bool) -> String {
+    if by_name {
+        let [(_, first), (_, second)] = NAME_DIVISORS;
+        return format!("||names|ns|{first}|{second}|\n|---|--:|--:|--:|--:|");
+    }
     let heads = ["ns", DIVISORS[0].1, DIVISORS[1].1, DIVISORS[2].1];
     let [first, others @ ..] = ARITIES.map(|arity| format!("{arity}|"));
     let heads = heads.map(|head| format!("{head}: {first}{}", others.concat()));
@@ -23,11 +30,19 @@ pub fn header() -> String {
     format!("||keys|{}\n|---|{lines}", heads.concat())
 }
 
-/// The nanoseconds of this heap at each arity, and its time over that of each other.
-pub fn row(name: &str, keys: usize, times: &Times) -> String {
+/// The nanoseconds of this heap at each arity, and its time over that of each other. By name there is one arity.
+pub fn row(name: &str, keys: usize, times: &Times, by_name: bool) -> String {
+    if by_name {
+        let here = nanoseconds(times, Heap::Named, 4).map(|time| format!("{time:.0}"));
+        let over = NAME_DIVISORS.map(|(heap, _)| over(times, Heap::Named, heap, 4));
+        return format!("|{name}|{keys}|{}{}", cell(here), over.concat());
+    }
     let time = |arity| nanoseconds(times, Heap::Here, arity).map(|time| format!("{time:.0}"));
     let here = ARITIES.map(|arity| cell(time(arity)));
-    let over = DIVISORS.map(|(heap, _)| ARITIES.map(|arity| over(times, heap, arity)).concat());
+    let over = DIVISORS.map(|(heap, _)| {
+        let at_arities = ARITIES.map(|arity| over(times, Heap::Here, heap, arity));
+        at_arities.concat()
+    });
     format!("|{name}|{keys}|{}{}", here.concat(), over.concat())
 }
 
@@ -39,9 +54,8 @@ fn nanoseconds(times: &Times, heap: Heap, arity: usize) -> Option<f64> {
     found.map(|(_, time)| *time)
 }
 
-/// The cell of this heap's time over that of another, which is empty if that isn't there.
-fn over(times: &Times, heap: Heap, arity: usize) -> String {
-    let (here, other) = (Heap::Here, heap);
+/// The cell of a heap's time over that of another, which is empty if that isn't there.
+fn over(times: &Times, here: Heap, other: Heap, arity: usize) -> String {
     let both = nanoseconds(times, here, arity).zip(nanoseconds(times, other, arity));
     cell(both.map(|(here, other)| format!("{:.2}", here / other)))
 }
@@ -72,7 +86,7 @@ pub fn counts_row(name: &str, keys: usize, task: &Task) -> String {
     };
     let comparisons = |made| format!("{:.2}", made as f64 / task.count as f64);
     let megabytes = |bytes| format!("{:.2}", bytes as f64 / 1e6);
-    let counting = rivals(Call::Search)
+    let counting = rivals(Call::Search, false)
         .into_iter()
         .filter(|(heap, _)| *heap != Heap::Set);
     let made: String = counting
@@ -112,5 +126,8 @@ pub fn name((heap, arity): Rival) -> String {
         Heap::Boost => format!("boost's of arity {arity}"),
         Heap::Set => "the set".into(),
         Heap::Stale => format!("the heap with stale entries of arity {arity}"),
+        Heap::Named => "the heap by name".into(),
+        Heap::ByHand => "the one by hand".into(),
+        Heap::BoostNamed => "boost's with a map".into(),
     }
 }

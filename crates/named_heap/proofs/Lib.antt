@@ -1,0 +1,10 @@
+pub mod Callers
+pub mod Changing
+pub mod Copying
+pub mod Counting
+pub mod Freeing
+pub mod InOrder
+pub mod Iterating
+pub mod Naming
+pub mod Numbering
+pub mod Popping

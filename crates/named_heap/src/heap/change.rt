@@ -1,0 +1,165 @@
+//! Calls that give a name an item.
+ghost use Rattle.std.specs.Prelude.{◌≡◌, ◌≢◌, ℕ, ◌+◌, ◌<◌, ◌≤◌, true, false, length, slice_get, IsSome, IfSome, IfNone, IfOk, IfErr, OnErr, OnOk, IsOk, Some};
+ghost use Rattle.std.specs.Bool.{OnTrue, OnFalse};
+ghost use Rattle.std.specs.Fn.{FnOnceReturnsAt, FnOnceTakesAt};
+ghost use Rattle.std.specs.Map.{lookup};
+ghost use Rattle.dary_heap.specs.Bounds.{RisesWithin, fix_bound, push_bound};
+ghost use Rattle.named_heap.specs.Entries.{AreSound, Changes, Gets, InsertsWithin, IsReached, Raises};
+
+use super::NamedHeap;
+use crate::names::{last, number};
+use dary_heap::sift::Judge;
+use indexmap::Equivalent;
+use std::hash::{BuildHasher, Hash};
+
+impl<K: Eq + Hash + Drop, T, const D: usize, J: Judge<T>, S: BuildHasher> NamedHeap<K, T, D, J, S> {
+    /// Gives a name an item. Returns the item that the name had, or `None` if it had none. If an equal name is there, it
+    /// stays, and the new one is dropped.
+    ///
+    /// No other entry changes. The call uses at most one place of the [`room`](NamedHeap::room).
+    ///
+    /// For a name without an item the call takes at most as many comparisons as the new place is deep. Otherwise it takes
+    /// at most as many as the place of the name's entry is deep, and `D` for each level from there down to that of the
+    /// last place. Both are *O*(log *n*) from arity 2 on.
+    ///
+    /// # Errors
+    ///
+    /// Returns the name and the item if memory allocation fails. The entries are then as they were. This happens only if
+    /// the name has no item, and there is no room.
+    ///
+    /// # Examples
+    ///
+    /// ```
+    /// use named_heap::NamedHeap;
+    /// let mut heap = NamedHeap::<_, _, 4>::new(alloc);
+    /// assert_eq!(rt; heap.insert("wash", 10), Ok(None));
+    /// assert_eq!(rt; heap.insert("wash", 3), Ok(Some(10)));
+    /// assert_eq!(rt; heap.get("wash"), Some(&3));
+    /// ```
+    pub fn insert(&mut self, name: K, item: T) -> Result<Option<T>, (K, T)>
+        ensures gets { IfOk result (λ given. Gets K.eq name item self.old.entries given self.new.entries) }
+        ensures given { IfOk result (λ given. given ≡ lookup (K.eq name) self.old.entries) }
+        ensures here { OnOk result (lookup (K.eq name) self.new.entries ≡ Some item) }
+        ensures others { OnOk result ((other : K) → K.eq name other ≡ false
+            → lookup (K.eq other) self.new.entries ≡ lookup (K.eq other) self.old.entries) }
+        ensures counted { OnOk result (InsertsWithin K.eq name D self.old.entries self.old.comparisons
+            self.new.comparisons) }
+        ensures sound { AreSound K.eq J.order D self.new.entries }
+        ensures room { self.old.room ≤ self.new.room + 1 }
+
+        // It can't fail if there is room, or the name has an item.
+        ensures succeeds { 0 < self.old.room → IsOk result }
+        ensures present { IsSome (lookup (K.eq name) self.old.entries) → IsOk result }
+        ensures returned { IfErr result (λ back. back ≡ (name, item)) }
+        ensures unchanged { OnErr result (self.new.entries ≡ self.old.entries) }
+        ensures uncounted { OnErr result (self.new.comparisons ≡ self.old.comparisons) }
+    {
+        let key = match number(&mut self.names, name) {
+            Ok(key) => key,
+            Err(name) => return Err((name, item)),
+        };
+        match self.heap.insert(key, item) {
+            Ok(given) => Ok(given),
+            Err(item) => Err((last(&mut self.names), item)),
+        }
+    }
+
+    /// Gives a name an item, unless it has one that is at least as great. Returns `true` if the name has the new item.
+    ///
+    /// If items come out least first, this lowers what a name has, as a search for shortest paths does. The call takes
+    /// at most one comparison more than an [`insert`](NamedHeap::insert) of a name without an item. If it returns
+    /// `false`, the new item is dropped, and nothing changes but the count.
+    ///
+    /// # Errors
+    ///
+    /// As [`insert`](NamedHeap::insert).
+    ///
+    /// # Examples
+    ///
+    /// ```
+    /// use named_heap::NamedHeap;
+    /// use std::cmp::Reverse;
+    /// let mut costs = NamedHeap::<_, _, 4>::new(alloc);
+    /// assert_eq!(rt; costs.raise("oslo", Reverse(10)), Ok(true));
+    /// assert_eq!(rt; costs.raise("oslo", Reverse(12)), Ok(false));
+    /// assert_eq!(rt; costs.raise("oslo", Reverse(4)), Ok(true));
+    /// assert_eq!(rt; costs.pop(), Some(("oslo", Reverse(4))));
+    /// ```
+    pub fn raise(&mut self, name: K, item: T) -> Result<bool, (K, T)>
+    where
+        T: Drop,
+        ensures raised { IfOk result (λ b. OnTrue b
+            (Raises K.eq name J.order item self.old.entries self.new.entries)) }
+        ensures reached { IfOk result (λ b. OnFalse b (IsReached K.eq name J.order item self.old.entries
+            × (self.new.entries ≡ self.old.entries))) }
+        ensures counted { OnOk result (RisesWithin self.old.comparisons self.new.comparisons
+            (push_bound D (length self.old.entries) + 1)) }
+        ensures sound { AreSound K.eq J.order D self.new.entries }
+        ensures room { self.old.room ≤ self.new.room + 1 }
+
+        // It can't fail if there is room, or the name has an item.
+        ensures succeeds { 0 < self.old.room → IsOk result }
+        ensures present { IsSome (lookup (K.eq name) self.old.entries) → IsOk result }
+        ensures returned { IfErr result (λ back. back ≡ (name, item)) }
+        ensures unchanged { OnErr result (self.new.entries ≡ self.old.entries) }
+        ensures uncounted { OnErr result (self.new.comparisons ≡ self.old.comparisons) }
+    {
+        let key = match number(&mut self.names, name) {
+            Ok(key) => key,
+            Err(name) => return Err((name, item)),
+        };
+        match self.heap.raise(key, item) {
+            Ok(raised) => Ok(raised),
+            Err(item) => Err((last(&mut self.names), item)),
+        }
+    }
+}
+
+impl<K: Eq + Hash, T, const D: usize, J: Judge<T>, S: BuildHasher> NamedHeap<K, T, D, J, S> {
+    /// Puts what a function makes of the item of a name in its place. Returns the item that the name had, or `None` if it
+    /// has none; then the function isn't called, and nothing changes.
+    ///
+    /// No other entry changes, and no room is used, so the call doesn't fail. It takes at most as many comparisons as the
+    /// place of the name's entry is deep, and `D` for each level from there down to that of the last place, which is
+    /// *O*(log *n*) from arity 2 on.
+    ///
+    /// # Preconditions
+    ///
+    /// - If the name has an item, `f` may be called on it.
+    ///
+    /// # Examples
+    ///
+    /// ```
+    /// use named_heap::NamedHeap;
+    /// let mut visits = NamedHeap::<_, _, 4>::new(alloc);
+    /// visits.insert("ann", 1)?;
+    /// visits.insert("bob", 2)?;
+    /// assert_eq!(rt; visits.change("ann", |count| count + 5), Some(1));
+    /// assert_eq!(rt; visits.change("eve", |count| count + 5), None);
+    /// assert_eq!(rt; visits.pop(), Some(("ann", 6)));
+    /// ```
+    pub fn change<Q: Equivalent<K>, F: FnOnce(&T) -> T>(&mut self, name: Q, f: F) -> Option<T>
+        requires { (item : T) → lookup (Q.equivalent name) self.old.entries ≡ Some item
+            → FnOnceTakesAt F.FnOnce f item }
+        ensures given { result ≡ lookup (Q.equivalent name) self.old.entries }
+        ensures changes { IfSome result (λ given. (item : T) × FnOnceReturnsAt F.FnOnce f given item
+            × Changes (Q.equivalent name) given item self.old.entries self.new.entries) }
+        ensures others { (other : K) → Q.equivalent name other ≡ false
+            → lookup (K.eq other) self.new.entries ≡ lookup (K.eq other) self.old.entries }
+        ensures counted { (at : ℕ) (entry : K × T) → slice_get self.old.entries at ≡ Some entry
+            → Q.equivalent name entry.0 ≡ true
+            → RisesWithin self.old.comparisons self.new.comparisons (fix_bound D (length self.old.entries) at) }
+        ensures sound { AreSound K.eq J.order D self.new.entries }
+        ensures room { self.old.room ≤ self.new.room }
+
+        // If the name has no item nothing changes.
+        ensures unchanged { IfNone result (self.new ≡ self.old) }
+    {
+        let key = self.names.get_index_of(name)?;
+        let made = f(self.heap.get(key)?);
+        match self.heap.insert(key, made) {
+            Ok(given) => given,
+            Err(_) => unreachable!(),
+        }
+    }
+}

@@ -1,0 +1,67 @@
+//! Names with their numbers, which are the keys of a heap's entries: what a call does to both.
+ghost use Rattle.std.specs.Prelude.{◌≡◌, ◌+◌, ◌<◌, ◌≤◌, ◌∷◌, ◌++◌, [], false, length, slice_get, Some, IsOk, IfErr, IfOk, OnErr};
+ghost use Rattle.std.specs.List.{IsDistinct, list_any};
+ghost use Rattle.indexmap.specs.IndexSet.{spare};
+ghost use Rattle.named_heap.specs.Names.{AreNamed, AreNamedBut, Numbers, named};
+
+use dary_heap::sift::Judge;
+use indexed_heap::IndexedHeap;
+use indexmap::IndexSet;
+use std::hash::{BuildHasher, Hash};
+
+/// Takes a name out whose number has no entry any more. The last name gets its number.
+pub(crate) fn free<K: Eq + Hash, T, const D: usize, J: Judge<T>, S: BuildHasher>(
+    names: &mut IndexSet<K, S>,
+    heap: &mut IndexedHeap<T, D, J>,
+    key: usize,
+) -> K
+    requires but { AreNamedBut K.eq J.order D names.old.keys key heap.old.entries }
+    requires room { key < heap.old.keys }
+    ensures name { slice_get names.old.keys key ≡ Some result }
+    ensures are_named { AreNamed K.eq J.order D names.new.keys heap.new.entries }
+    ensures entries { named names.new.keys heap.new.entries ≡ named names.old.keys heap.old.entries }
+    ensures len { length names.new.keys + 1 ≡ length names.old.keys }
+    ensures entries_len { length heap.new.entries ≡ length heap.old.entries }
+    ensures spare { spare names.old ≤ spare names.new }
+    ensures capacity { heap.new.capacity ≡ heap.old.capacity }
+    ensures keys { heap.new.keys ≡ heap.old.keys }
+    ensures uncounted { heap.new.comparisons ≡ heap.old.comparisons }
+{
+    let Some(name) = names.swap_remove_index(key) else {
+        unreachable!();
+    };
+    heap.rename(names.len(), key);
+    name
+}
+
+/// Returns the number of a name, which is new if no name is equal. If it fails, the name comes back.
+pub(crate) fn number<K: Eq + Hash + Drop, S: BuildHasher>(
+    names: &mut IndexSet<K, S>,
+    name: K,
+) -> Result<usize, K>
+    ensures numbers { IfOk result (λ key. Numbers K.eq name key names.old.keys names.new.keys) }
+    ensures unique { IsDistinct K.eq names.new.keys }
+    ensures returned { IfErr result (λ back. back ≡ name) }
+    ensures unchanged { OnErr result (names.new.keys ≡ names.old.keys) }
+    ensures absent { OnErr result (list_any (K.eq name) names.old.keys ≡ false) }
+    ensures succeeds { 0 < spare names.old → IsOk result }
+    ensures spare { spare names.old ≤ spare names.new + 1 }
+{
+    match names.insert_full(name) {
+        Ok((key, _)) => Ok(key),
+        Err(refused) => Err(refused.value),
+    }
+}
+
+/// Takes the last name out.
+pub(crate) fn last<K: Eq + Hash, S: BuildHasher>(names: &mut IndexSet<K, S>) -> K
+    requires { 0 < length names.old.keys }
+    ensures last { names.old.keys ≡ names.new.keys ++ result ∷ [] }
+    ensures unique { IsDistinct K.eq names.new.keys }
+    ensures spare { spare names.old ≤ spare names.new }
+{
+    let Some(name) = names.pop() else {
+        unreachable!();
+    };
+    name
+}
