@@ -102,6 +102,7 @@ pub fn pop_least<const D: usize>(heap: &mut DaryHeap<u32, D, LeastFirst<ByOrd>>)
     ensures some { IsSome result ↔ (0 < length heap.old.items) }
     ensures least { IfSome result (λ number. All (λ other. number ≤ other) heap.new.items) }
     ensures bag { IfSome result (λ number. IsSameBag heap.old.items (number ∷ heap.new.items)) }
+    ensures capacity { heap.new.capacity ≡ heap.old.capacity }
     ensures unchanged { IfNone result (heap.new ≡ heap.old) }
 {
     heap.pop()

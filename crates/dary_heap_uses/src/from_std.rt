@@ -1,10 +1,11 @@
 //! Callers for whom this heap takes the place of std's `BinaryHeap`.
-ghost use Rattle.std.specs.BinaryHeap.{IsHeap, heap_items};
+ghost use Rattle.std.specs.BinaryHeap.{IsHeap, heap_items, heap_capacity};
 ghost use Rattle.std.specs.BTreeMap.{get};
 ghost use Rattle.std.specs.Ordering.{nat_cmp};
-ghost use Rattle.std.specs.Prelude.{◌≡◌, ◌≢◌, ℕ, ◌+◌, ◌<◌, ◌≤◌, ◌-◌, ◌↔◌, [], ◌∷◌, ◌++◌, nat_lt, All, count_by, length, vec_len, IsOk, IsSome, Some, IfSome, IfNone, IfOk, OnOk, OnErr};
+ghost use Rattle.std.specs.Prelude.{◌≡◌, ◌≢◌, ℕ, ◌+◌, ◌<◌, ◌≤◌, ◌-◌, ◌↔◌, [], ◌∷◌, ◌++◌, nat_lt, All, count_by, length, vec_len, vec_capacity, IsOk, IsSome, Some, IfSome, IfNone, IfOk, OnOk, OnErr};
 ghost use Rattle.dary_heap.specs.Appending.{receiving_capacity};
 ghost use Rattle.dary_heap.specs.Bag.{IsSameBag};
+ghost use Rattle.dary_heap.specs.Building.{IsNew};
 ghost use Rattle.dary_heap.specs.Contents.{Contents};
 ghost use Rattle.dary_heap_uses.specs.FromStd.{NoneHigher, up_to, Falls, IsLead, IsRange, prices_at};
 
@@ -17,6 +18,9 @@ use std::{collections, mem};
 /// drops.
 pub fn add_price(prices: &mut BinaryHeap<u32>, price: u32) -> Result<(), AllocError>
     ensures bag { OnOk result (IsSameBag (price ∷ prices.old.items) prices.new.items) }
+    ensures capacity { prices.old.capacity ≤ prices.new.capacity }
+    ensures kept { length prices.old.items < prices.old.capacity
+        → prices.new.capacity ≡ prices.old.capacity }
     ensures succeeds { length prices.old.items < prices.old.capacity → IsOk result }
     ensures unchanged { OnErr result (prices.new ≡ prices.old) }
 {
@@ -113,18 +117,22 @@ pub fn join(prices: &mut BinaryHeap<u32>, others: &mut BinaryHeap<u32>) -> Resul
     Ok(prices.len())
 }
 
-/// Makes a heap of std's heap, which must be heap ordered (a precondition). The vector stays as it is.
+/// Makes a heap of std's heap, which must be heap ordered (a precondition). The vector stays as it is, with its
+/// capacity, and nothing is compared.
 pub fn moved<T: Ord>(heap: collections::BinaryHeap<T>) -> BinaryHeap<T>
     requires { IsHeap T.cmp (heap_items heap) }
-    ensures { result.items ≡ heap_items heap }
+    ensures items { result.items ≡ heap_items heap }
+    ensures capacity { result.capacity ≡ heap_capacity heap }
+    ensures uncounted { result.comparisons ≡ 0 }
 {
     BinaryHeap::from_raw_vec(heap.into_vec())
 }
 
-/// Returns the vector of a heap, for code that relies on the order that std's heap keeps.
+/// Returns the vector of a heap, with its capacity, for code that relies on the order that std's heap keeps.
 pub fn as_std<T: Ord>(heap: BinaryHeap<T>) -> Vec<T>
     ensures heap { IsHeap T.cmp result.items }
     ensures items { result.items ≡ heap.items }
+    ensures capacity { vec_capacity result ≡ heap.capacity }
 {
     heap.into_vec()
 }
@@ -135,7 +143,7 @@ pub fn take_all<T: Ord, const D: usize>(
     heap: &mut DaryHeap<T, D>,
 ) -> Result<DaryHeap<T, D>, AllocError>
     ensures taken { IfOk result (λ all. all ≡ heap.old) }
-    ensures left { OnOk result (heap.new.items ≡ []) }
+    ensures left { OnOk result (IsNew heap.new) }
     ensures unchanged { OnErr result (heap.new ≡ heap.old) }
 {
     mem::try_take(heap)

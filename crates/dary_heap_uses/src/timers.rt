@@ -155,7 +155,7 @@ impl<const D: usize> TimerQueue<D> {
     }
 
     /// Returns the timers that are due next, in their order: `most` of them, or all if they are fewer. The queue stays as
-    /// it is, and however long it is, only those that may come next are compared.
+    /// it is.
     ///
     /// Fails if memory allocation fails. If no timer is asked for, or none is set, it doesn't fail.
     ///

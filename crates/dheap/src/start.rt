@@ -1,5 +1,5 @@
 //! The start of the program: it reads its arguments and serves.
-ghost use Rattle.std.specs.Prelude.{◌≤◌};
+ghost use Rattle.std.specs.Prelude.{◌≡◌, ◌≤◌, OnErr};
 
 use crate::serve::fault::Fault;
 use crate::serve::serve;
@@ -18,7 +18,21 @@ pub(crate) fn start<V: Env, R: Read, W: Write, E: Write>(
 ) -> u8
     ensures status { result ≤ 4 }
 {
-    match words(env, alloc) {
+    serve_by(words(env, alloc), alloc, input, output, errors)
+}
+
+/// Serves by these arguments, or says that there was no memory for them.
+fn serve_by<R: Read, W: Write, E: Write>(
+    words: Result<Vec<String>, AllocError>,
+    alloc: Global,
+    input: &mut R,
+    output: &mut W,
+    errors: &mut E,
+) -> u8
+    ensures status { result ≤ 4 }
+    ensures refused { OnErr words (result ≡ 3) }
+{
+    match words {
         Ok(words) => serve(alloc, words.as_slice(), input, output, errors),
         Err(AllocError) => Fault::NoMemory.report(errors),
     }
