@@ -52,7 +52,7 @@
 //! | [`shortest_path_by_lowering_within`](shortest_path::shortest_path_by_lowering_within) | a `pop` for each node, and a `raise` for the start and each edge |
 //! | an item of [`into_iter_sorted`](IndexedHeap::into_iter_sorted) | as `pop` |
 //! | an item of [`iter_sorted`](IndexedHeap::iter_sorted), [`iter_sorted_with`](IndexedHeap::iter_sorted_with) | a pop and `D` pushes in a heap of arity 4 of the `1 + (D - 1) * k` that may come after `k` items |
-//! | `clone` of the trait `Clone`, for another judge than `ByOrd` | `2 * (n - 1)` |
+//! | `clone` of the trait `Clone`, for another judge than `ByOrd`; any `clone` of an [`IntoIterSorted`] | `2 * (n - 1)` |
 //! | [`get`](IndexedHeap::get), [`peek`](IndexedHeap::peek), [`iter`](IndexedHeap::iter), [`drain`](IndexedHeap::drain), [`rename`](IndexedHeap::rename), [`clone`](IndexedHeap::clone), [`reserve`](IndexedHeap::reserve) and the heap's other methods | none |
 //!
 //! # Modules
