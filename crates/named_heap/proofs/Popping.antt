@@ -1,5 +1,5 @@
 -- A pop of entries with names, as one of pairs.
-use Rattle.dary_heap.proofs.Common.{◌≡◌, ℕ, ◌-◌, ◌<◌, ◌↔◌, ◌∷◌, Bool, List, length, ap, refl, arith, Option, Some, None, IfNone, IfSome, IsSome, slice_get, length_permutation, Ordering}
+use Rattle.dary_heap.proofs.Common.{◌≡◌, ℕ, ◌-◌, ◌<◌, ◌∷◌, Bool, List, length, ap, refl, arith, Option, Some, None, IfNone, IfSome, IsSome, slice_get, length_permutation, Ordering}
 use Rattle.dary_heap.proofs.Common.{IsGreatest, IsSameBag, RisesWithin, pop_bound}
 use Rattle.std.specs.Iterator.{MakesProgress, item_count}
 use Rattle.dary_heap.proofs.Popping.{none_first}
