@@ -1,7 +1,8 @@
 -- What a bag holds once a value came to it, and which of it is a greatest. A bag from which one was taken is read the other way round. A greatest item bounds the others, in std's word for it.
 use Rattle.dary_heap.proofs.Common.{◌≡◌, ◌≢◌, ◌⊎◌, ◌<◌, List, [], ◌∷◌, ◌++◌, length, Contains, false, Option, Some, None, IfSome, inl, inr, refl, ap, ◌∙◌, subst, arith, Contains-append_right}
 use Rattle.dary_heap.proofs.Common.{Contains-append_cases, IsPermutation-sym, Contains-permutation, IsSameBag, front, IsTotalOrder, IsGreatest, AllByRecursion, is_lt, ordering_reverse, Ordering}
-use Rattle.dary_heap.proofs.Common.{Less, Equal, Greater, Bor}
+use Rattle.dary_heap.proofs.Common.{Less, Equal, Greater, Bor, IsSubBag, Bool, true, IsPermutation-refl, IsPermutation-trans, IsPermutation-cons, IsPermutation-to_front, IsPermutation-append_left, IsPermutation-append_comm, Contains-append_left, append-nil, append_assoc, sym, items_where_true}
+use Rattle.std.proofs.lemmas.List.Sorted.{IsPermutation-append_right}
 use Rattle.dary_heap.proofs.Fronts.{alone}
 use Rattle.dary_heap.proofs.Order.{not_greater-self, not_greater-trans}
 use Rattle.std.specs.BinaryHeap.{IsUpperBound}
@@ -82,6 +83,42 @@ module _ {X : Type 0} (values : List X) where
 
   pub IsAmong-same : (xs ys : List X) → IsSameBag xs ys → IsAmong values xs → IsAmong values ys
   IsAmong-same xs ys same h y in' = h y (Contains-permutation ys xs y (IsPermutation-sym xs ys same) in')
+
+  pub IsAmong-sub_bag : (xs ys : List X) → IsSubBag xs ys → IsAmong values ys → IsAmong values xs
+  IsAmong-sub_bag xs ys sub h y in' = h y (Contains-permutation (xs ++ sub.0) ys y (IsPermutation-sym ys (xs ++ sub.0) sub.1) (Contains-append_left xs sub.0 y in'))
+
+-- ---- sub-bags
+
+module _ {X : Type 0} where
+  pub IsSubBag-same : (xs ys : List X) → IsSameBag ys xs → IsSubBag xs ys
+  IsSubBag-same xs ys same = ([], subst (λ l. IsSameBag ys l) (sym (append-nil xs)) same)
+
+  pub IsSubBag-trans : (xs ys zs : List X) → IsSubBag xs ys → IsSubBag ys zs → IsSubBag xs zs
+  IsSubBag-trans xs ys zs h k =
+      let whole = IsPermutation-trans _ _ _ k.1 (IsPermutation-append_left k.0 ys (xs ++ h.0) h.1) in
+      (h.0 ++ k.0, subst (λ l. IsSameBag zs l) (append_assoc xs h.0 k.0) whole)
+
+  pub IsSubBag-front : (xs more : List X) → IsSubBag xs (xs ++ more)
+  IsSubBag-front xs more = (more, IsPermutation-refl (xs ++ more))
+
+  pub IsSubBag-tail : (x : X) (xs : List X) → IsSubBag xs (x ∷ xs)
+  IsSubBag-tail x xs = (x ∷ [], IsPermutation-sym (xs ++ x ∷ []) (x ∷ xs) (IsPermutation-to_front xs x))
+
+  pub IsSubBag-append : (xs ys more : List X) → IsSubBag xs ys → IsSubBag (xs ++ more) (ys ++ more)
+  IsSubBag-append xs ys more h =
+      let apart = subst (λ l. IsSameBag (ys ++ more) l) (append_assoc xs h.0 more) (IsPermutation-append_left more ys (xs ++ h.0) h.1) in
+      let turned = IsPermutation-append_right xs (h.0 ++ more) (more ++ h.0) (IsPermutation-append_comm h.0 more) in
+      (h.0, subst (λ l. IsSameBag (ys ++ more) l) (sym (append_assoc xs more h.0)) (IsPermutation-trans _ _ _ apart turned))
+
+  pub IsSubBag-cons : (x : X) (xs ys : List X) → IsSubBag xs ys → IsSubBag (x ∷ xs) (x ∷ ys)
+  IsSubBag-cons x xs ys h = (h.0, IsPermutation-cons x ys (xs ++ h.0) h.1)
+
+  -- those that were picked
+  pub IsSubBag-picked : (picks : List Bool) (xs : List X) → IsSubBag (items_where_true picks xs) xs
+  IsSubBag-picked [] xs = (xs, IsPermutation-refl xs)
+  IsSubBag-picked (b ∷ picks) [] = ([], IsPermutation-refl [])
+  IsSubBag-picked (true ∷ picks) (x ∷ xs) = IsSubBag-cons x _ xs (IsSubBag-picked picks xs)
+  IsSubBag-picked (false ∷ picks) (x ∷ xs) = IsSubBag-trans _ xs (x ∷ xs) (IsSubBag-picked picks xs) (IsSubBag-tail x xs)
 
 -- ---- bounds
 

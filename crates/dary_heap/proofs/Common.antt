@@ -37,7 +37,7 @@ pub use Rattle.std.specs.declared.alloc.Global.{Global}
 pub use Rattle.std.specs.declared.cmp.Ordering.{Ordering}
 pub use Rattle.std.specs.declared.cmp.Ordering.TheVariants.{Equal, Greater, Less}
 pub use Rattle.dary_heap.specs.Asking.{IsCallableOn, IsCallableOnce, MayCall, MayServe, TakesInTurn, items_in, written}
-pub use Rattle.dary_heap.specs.Bag.{IsGreatest, IsGreatest-same_bag, IsSameBag}
+pub use Rattle.dary_heap.specs.Bag.{IsGreatest, IsGreatest-same_bag, IsSameBag, IsSubBag}
 pub use Rattle.dary_heap.specs.Bounds.{RisesWithin, build_bound, charge, fix_bound, mend_bound, pop_bound, pops_bound, push_bound, refreshes, search_bound, sink_bound}
 pub use Rattle.dary_heap.specs.sift.Choosing.{Chooses, FindsGreatestChild, HasChildrenFrom, IsAt, IsBelow, IsFirstChild, IsGreatestAt}
 pub use Rattle.dary_heap.specs.Contents.{Contents}

@@ -2,6 +2,7 @@
 use Rattle.std.specs.Prelude.{◌≡◌, Bool, List, [], ◌∷◌, ◌++◌, Contains, Some, slice_get}
 use Rattle.std.specs.Fn.{Mut, TakesAt, CalledAt}
 use denote.Ref.{Bor}
+use Rattle.dary_heap.specs.Bag.{IsSubBag}
 use Rattle.dary_heap.specs.Machine.{Act, Write, Refresh, Command, Push, PopIf, Ask, Retain, Extend, Append, Loan}
 
 module _ {T P : Type 0} (calls : Mut P (Bor T × Unit {0}) Bool) where
@@ -10,9 +11,9 @@ module _ {T P : Type 0} (calls : Mut P (Bor T × Unit {0}) Bool) where
   TakesInTurn p [] = Unit {0}
   TakesInTurn p (x ∷ xs) = TakesAt calls p x × ((answer : Bool) (after : P) → CalledAt calls p x answer after → TakesInTurn after xs)
 
-  -- p may be called on every one of these items, in any order and any number of times
+  -- p may be called on every one of these items, in any order, and on none more often than it occurs among them
   pub record IsCallableOn (items : List T) (p : P) : Type 0 where
-    pub in_turn : (xs : List T) → ((x : T) → Contains xs x → Contains items x) → TakesInTurn p xs
+    pub in_turn : (xs : List T) → IsSubBag xs items → TakesInTurn p xs
 
   -- p may be called once, on any of these items
   abbrev pub IsCallableOnce : List T → P → Type 0

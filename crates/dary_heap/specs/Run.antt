@@ -1,7 +1,8 @@
 -- What a list of commands makes of a heap.
-use Rattle.std.specs.Prelude.{◌≡◌, ℕ, ◌-◌, ◌<◌, ◌≤◌, Bool, List, [], ◌∷◌, ◌++◌, length, Contains}
+use Rattle.std.specs.Prelude.{◌≡◌, ℕ, ◌-◌, ◌<◌, ◌≤◌, Bool, List, [], ◌∷◌, ◌++◌, length}
 use Rattle.std.specs.declared.cmp.Ordering.{Ordering}
 use Rattle.dary_heap.specs.Asking.{items_in}
+use Rattle.dary_heap.specs.Bag.{IsSubBag}
 use Rattle.dary_heap.specs.Bounds.{RisesWithin, charge, charges}
 use Rattle.dary_heap.specs.Contents.{Contents}
 use Rattle.dary_heap.specs.HeapOrder.{IsHeapOrdered}
@@ -63,7 +64,7 @@ module _ {T P : Type 0} (cmp : T → T → Ordering) (calls : P → T → Bool �
     pub sure : sure_after (room old) command reply ≤ room new
     pub ordered : IsHeapOrdered cmp D new.items
     -- its items come from the heap and the command
-    pub among : (x : T) → Contains new.items x → Contains (old.items ++ items_in (command ∷ [])) x
+    pub among : IsSubBag new.items (old.items ++ items_in (command ∷ []))
 
 -- a heap gave this reply to this command, which holds no predicate
 abbrev pub ServesPlain : {T : Type 0} → (T → T → Ordering) → ℕ → Contents T → Command T ⊥ → Reply T → Contents T → Type 0

@@ -120,7 +120,7 @@ pub enum Reply<T: Ord, const D: usize> {
 ///
 /// - Any predicate of the type `P` may be called on anything, and again after each call. Or else that of a
 ///   [`Command::Ask`] or a [`Command::PopIf`] may be called once, on any item that the heap or the commands hold, and
-///   that of a [`Command::Retain`] on each of them, in any order. `run` calls the former no second time.
+///   that of a [`Command::Retain`] once on each of them, in any order. `run` calls none more often than that.
 ///
 /// # Errors
 ///

@@ -1,7 +1,8 @@
 -- A run goes on by one command. What it asks of the caller, and the items that it brings in, are among those of all commands.
 use Rattle.dary_heap.proofs.Common.{◌≡◌, ℕ, ◌+◌, ◌≤◌, Bool, List, [], ◌∷◌, ◌++◌, length, refl, ap, arith, Ordering, charge, Contents, Command, Reply, Step, Steps, last_state, IsState, IsServed}
-use Rattle.dary_heap.proofs.Common.{Runs, Serves, room, sure_after, All, Contains, sym, subst, append_assoc, All-contains, Contains-append_left}
-use Rattle.dary_heap.proofs.Common.{Contains-append_right, Mut, Bor, MayCall, MayServe, items_in, zero-le, Some, slice_get, slice_get_within, get_or_from_slice_get}
+use Rattle.dary_heap.proofs.Common.{◌∙◌, Runs, Serves, room, sure_after, All, Contains, sym, subst, append_assoc, All-contains, Contains-append_left}
+use Rattle.dary_heap.proofs.Common.{Contains-append_right, Mut, Bor, MayCall, MayServe, items_in, zero-le, Some, slice_get, slice_get_within, get_or_from_slice_get, IsSubBag}
+use Rattle.dary_heap.proofs.Bags.{IsAmong-sub_bag, IsSubBag-append, IsSubBag-front, IsSubBag-trans}
 use Rattle.dary_heap.specs.Bounds.{charges}
 use Rattle.dary_heap.specs.Run.{PushesServed, sure_at_end}
 use Rattle.dary_heap.specs.Machine as machine
@@ -54,32 +55,37 @@ module _ {T P : Type 0} {cmp : T → T → Ordering} {calls : P → T → Bool �
         sure = omega (arith, h.4, sure_after-fewer _ _ command reply runs.sure, serves.sure);
       }
 
--- what one of many gives is among what all give
-of_one : {A B : Type 0} (f : List A → List B) (joins : (xs ys : List A) → f (xs ++ ys) ≡ f xs ++ f ys) (before : List A) (one : A) (after : List A) (x : B) → Contains (f (one ∷ [])) x →
-    Contains (f (before ++ (one ∷ after))) x
-of_one f joins before one after x in' =
-    let first = subst (λ xs. Contains xs x) (sym (joins (one ∷ []) after)) (Contains-append_left (f (one ∷ [])) (f after) x in') in
-    subst (λ xs. Contains xs x) (sym (joins before (one ∷ after))) (Contains-append_right (f before) _ x first)
-
 module _ {T P : Type 0} where
   items_in-append : (xs ys : List (Command T P)) → items_in (xs ++ ys) ≡ items_in xs ++ items_in ys
   items_in-append [] ys = refl
   items_in-append (machine.Push x ∷ xs) ys = ap (λ zs. x ∷ zs) (items_in-append xs ys)
   items_in-append (command ∷ xs) ys = first_of (simp (items_in-append xs ys), simp (items_in-append xs ys, append_assoc))
 
-  -- the items of one command are among those of all
-  pub items_of_one : (before : List (Command T P)) (command : Command T P) (after : List (Command T P)) (x : T) → Contains (items_in (command ∷ [])) x →
-      Contains (items_in (before ++ (command ∷ after))) x
-  items_of_one before command after x in' = of_one items_in items_in-append before command after x in'
+  -- what came from a heap and the commands before comes from it and all of them
+  came_before : (old items : List T) (before after : List (Command T P)) → IsSubBag items (old ++ items_in before) → IsSubBag items (old ++ items_in (before ++ after))
+  came_before old items before after came =
+      let whole = append_assoc old (items_in before) (items_in after) ∙ ap (λ xs. old ++ xs) (sym (items_in-append before after)) in
+      subst (IsSubBag items) whole (IsSubBag-trans items _ _ came (IsSubBag-front (old ++ items_in before) (items_in after)))
+
+  -- what one command makes of items that came from a heap and the commands before
+  pub came_with : (old items new : List T) (before : List (Command T P)) (command : Command T P) → IsSubBag items (old ++ items_in before) →
+      IsSubBag new (items ++ items_in (command ∷ [])) → IsSubBag new (old ++ items_in (before ++ command ∷ []))
+  came_with old items new before command came now =
+      let more = items_in (command ∷ []) in
+      let whole = append_assoc old (items_in before) more ∙ ap (λ xs. old ++ xs) (sym (items_in-append before (command ∷ []))) in
+      subst (IsSubBag new) whole (IsSubBag-trans new _ _ now (IsSubBag-append items (old ++ items_in before) more came))
 
   module _ (calls : Mut P (Bor T × Unit {0}) Bool) where
-    -- the predicate of one command may be called on the front and on each item in turn, if it may be on any items that are among these
-    pub callable_one : (pool items : List T) (before : List (Command T P)) (command : Command T P) (after : List (Command T P)) → ((x : T) → Contains items x → Contains pool x) →
-        All (MayCall calls pool) (before ++ (command ∷ after)) → MayServe calls items command
-    callable_one pool items before command after among h =
+    -- the predicate of one command may be called on the front and on each item in turn, if that of each may be on what the heap and all of them hold
+    pub callable_one : (old items : List T) (before : List (Command T P)) (command : Command T P) (after : List (Command T P)) → IsSubBag items (old ++ items_in before) →
+        All (MayCall calls (old ++ items_in (before ++ (command ∷ after)))) (before ++ (command ∷ after)) → MayServe calls items command
+    callable_one old items before command after came h =
+        let pool = old ++ items_in (before ++ (command ∷ after)) in
+        let among : IsSubBag items pool = came_before old items before (command ∷ after) came in
         let there : Contains (before ++ (command ∷ after)) command = Contains-append_right before (command ∷ after) command (0, omega arith, refl) in
         let may = All-contains (MayCall calls pool) _ command h there in
-        let on_front : (x : T) → slice_get items 0 ≡ Some x → Contains pool x = λ x is. among x (0, slice_get_within items 0 x is, get_or_from_slice_get items 0 x x is) in
+        let held = IsAmong-sub_bag pool items pool among (λ x in'. in') in
+        let on_front : (x : T) → slice_get items 0 ≡ Some x → Contains pool x = λ x is. held x (0, slice_get_within items 0 x is, get_or_from_slice_get items 0 x x is) in
         record {
           pop_if = λ p is x first. may.pop_if p is x (on_front x first);
           ask = λ p is x first. may.ask p is x (on_front x first);

@@ -3,7 +3,7 @@ use Rattle.dary_heap.proofs.{◌≡◌, ◌≢◌, ℕ, zero, suc, Bool, true, f
 use Rattle.dary_heap.proofs.{Greater, Contains-append_left, Contains-append_right, IsPermutation-refl, IsPermutation-sym, IsPermutation-trans, IsPermutation-cons, length_permutation, items_in}
 use Rattle.dary_heap.proofs.{written, IsSameBag, IsGreatest, IsGreatest-same_bag, Act, Write, Refresh, End, PutBack, TakeOut, Seen, Old, Changed, Command, Reply, Push, Pop, Len, Extend, Append}
 use Rattle.dary_heap.proofs.{Reserve, Shrink, Clear, DrainSorted, Loan, Pushed, Popped, Size, Done, Taken, Loaned, Acts, Ends, Pops, PopsInTurn, Step, Steps, last_state, IsState, IsSameState, front}
-use Rattle.dary_heap.proofs.{holds_none, Contains-first, IsAmong, IsAmong-cons, IsAmong-tail, IsAmong-append, IsAmong-same, same_state}
+use Rattle.dary_heap.proofs.{holds_none, Contains-first, IsAmong, IsAmong-cons, IsAmong-tail, IsAmong-append, IsAmong-same, same_state, IsAmong-sub_bag}
 use Rattle.dary_heap.specs.TwoArities.{HasNoTies, IsSettled, IsUnrefused, SameRepliesAtTwoArities}
 use Rattle.dary_heap.proofs.Cancelling.{IsPermutation-uncons}
 use Rattle.dary_heap.proofs.run.SameStates.{Step-same_state, in_turn, IsSameState-sym, Step-state}
@@ -109,7 +109,8 @@ module _ {X P : Type 0} {cmp : X → X → Ordering} (calls : P → X → Bool �
       let here = Acts-from cmp h.0 k.0 h.1 k.1 acts told'.0 k.2 k.3 first rest k.6 in
       let begun = IsAmong-same values old (h.0 ∷ h.1) h.5 among in
       let during = acted h.0 h.1 acts told.0 told'.0 h.2 k.2 h.3 k.3 begun wrote h.6 here in
-      let after = ended h.2 k.2 h.3 k.3 end told.1 told'.1 new new' during.held during.rest (Acts-among cmp values h.0 h.1 acts told.0 h.2 h.3 begun wrote h.6) h.7 k.7 in
+      let left_among = IsAmong-sub_bag values (h.2 ∷ h.3) ((h.0 ∷ h.1) ++ written acts) (Acts-among cmp h.0 h.1 acts told.0 h.2 h.3 h.6) (IsAmong-append values (h.0 ∷ h.1) (written acts) begun wrote) in
+      let after = ended h.2 k.2 h.3 k.3 end told.1 told'.1 new new' during.held during.rest left_among h.7 k.7 in
       record { replies = ap (λ s. Loaned (Some (s, told.1))) during.told ∙ ap (λ p. Loaned (Some (told'.0, p))) after.0; bag = after.1; among = after.2 }
 
   steps_alike : (command : Command X P) (commands : List (Command X P)) (old : List X) (reply reply' : Reply X) (new new' : List X) → IsSettled command →

@@ -4,16 +4,15 @@ use Rattle.dary_heap.proofs.{false, IsTotalOrder, Mut, Called, CalledAt, Contain
 use Rattle.dary_heap.proofs.{RisesWithin, pop_bound, charge, Contents, IsHeapOrdered, Command, Reply, Pop, Ask, Popped, Asked, Step, IsServed, Serves, room, sure_after, front, suc, ◌-◌, if◌then◌else◌}
 use Rattle.dary_heap.proofs.{min, ap, ◌∙◌, length-append, append-nil, mul-le-mul_right, Contains-append_right, IsPermutation-sym, Contains-permutation, Bor, items_where_true, IsSameBag, IsGreatest}
 use Rattle.dary_heap.proofs.{mend_bound, IsExtended, first_no, depth, PopIf, Retain, Extend, Append, Done, IsJoined, nat_tests, ◌≢◌, le_refl, zero-le, true≢false, IsSameState, IsAmong, IsAmong-same}
-use Rattle.dary_heap.proofs.{IsAmong-tail, front_cases, holds_none, IsAmong-append, ordered_state, same_state, none_ordered, read}
+use Rattle.dary_heap.proofs.{IsAmong-tail, front_cases, holds_none, IsAmong-append, ordered_state, same_state, none_ordered, read, IsPermutation-refl, IsSubBag, IsSubBag-front, IsSubBag-trans, IsSubBag-same, IsSubBag-tail, append_assoc, IsPermutation-append_left, IsSubBag-picked}
 use Rattle.dary_heap.proofs.Popping.{none_first}
-use Rattle.std.proofs.lemmas.Grind.{get_or_picked}
 use Rattle.dary_heap.specs.Filtering.{IsRetained}
 use Rattle.dary_heap.proofs.heap.Filtering.{few_picked}
 use Rattle.dary_heap.proofs.sift.Written.{none_counted}
 
 -- the items of a bag from which m was taken
-pub rest_among : {X : Type 0} (xs ys : List X) (m : X) → IsPermutation xs (m ∷ ys) → IsAmong (xs ++ []) ys
-rest_among xs ys m h = IsAmong-tail _ m ys (IsAmong-same _ xs (m ∷ ys) h (Contains-append_left xs []))
+pub rest_among : {X : Type 0} (xs ys : List X) (m : X) → IsPermutation xs (m ∷ ys) → IsSubBag ys (xs ++ [])
+rest_among xs ys m h = rw append-nil (IsSubBag-trans ys (m ∷ ys) xs (IsSubBag-tail m ys) (IsSubBag-same (m ∷ ys) xs h))
 
 -- what a drain is told that found no room for the items that it was to return
 pub refused : {X : Type 0} (old : List X) (count len wanted : ℕ) → len ≡ length old → wanted ≡ min count len → (wanted ≡ 0 → false ≡ true) → (old ≢ []) × (count ≢ 0) × IsSameState old old
@@ -31,7 +30,7 @@ module _ {X P : Type 0} {cmp : X → X → Ordering} {calls : P → X → Bool �
     served = served;
     sure = sure;
     ordered = ordered;
-    among = rw same (Contains-append_left old.items _);
+    among = rw same (IsSubBag-front old.items _);
   }
 
   -- a step that leaves all as it was
@@ -49,7 +48,7 @@ module _ {X P : Type 0} {cmp : X → X → Ordering} {calls : P → X → Bool �
     served = served;
     sure = omega (arith, sure);
     ordered = none_ordered _ none;
-    among = λ x in'. absurd (holds_none x (rw none at in'));
+    among = rw none (_, IsPermutation-refl _);
   }
 
   pub pops : IsTotalOrder cmp → (old new : Contents X) (r : Option X) → r ≡ slice_get old.items 0 → IfSome r (λ m. IsPermutation old.items (m ∷ new.items)) → IsHeapOrdered cmp D new.items →
@@ -69,10 +68,10 @@ mend_bound-fewer : (D n j k : ℕ) → j ≤ k → mend_bound D n j ≤ mend_bou
 mend_bound-fewer D n j k h = let less = mul-le-mul_right (depth D (n - 1)) h in grind (arith, nat_tests)
 
 -- items that come in behind others, all of them or a beginning
-came_behind : {X : Type 0} (xs ys all left new : List X) → all ≡ ys ++ left → IsSameBag (xs ++ ys) new → IsAmong (xs ++ (all ++ [])) new
-came_behind {X} xs ys all left new split bag =
-    let behind = λ (x : X) (in' : Contains ys x). Contains-append_right xs (all ++ []) x (Contains-append_left all [] x (subst (λ l. Contains l x) (sym split) (Contains-append_left ys left x in'))) in
-    IsAmong-same _ (xs ++ ys) new bag (IsAmong-append _ xs ys (Contains-append_left xs (all ++ [])) behind)
+came_behind : {X : Type 0} (xs ys all left new : List X) → all ≡ ys ++ left → IsSameBag (xs ++ ys) new → IsSubBag new (xs ++ (all ++ []))
+came_behind xs ys all left new split bag =
+    let whole = append_assoc xs ys left ∙ ap (λ l. xs ++ l) (sym split ∙ sym (append-nil all)) in
+    (left, subst (λ l. IsSameBag l (new ++ left)) whole (IsPermutation-append_left left (xs ++ ys) new bag))
 
 -- where all are picked, each answer was yes
 none_removed : {X : Type 0} (bs : List Bool) (xs : List X) → length bs ≡ length xs → items_where_true bs xs ≡ xs → first_no bs ≡ length bs
@@ -100,10 +99,7 @@ module _ {X P : Type 0} {cmp : X → X → Ordering} {calls : P → X → Bool �
         served = tt;
         sure = zero-le;
         ordered = ordered;
-        among = λ x in'.
-            let there = Contains-permutation new.items kept x (IsPermutation-sym kept new.items h.bag) in' in
-            let from = (get_or_picked h.answers old.items there.0 x there.1).1 in
-            Contains-append_left old.items [] x (from.0, from.1, sym from.2 ∙ there.2);
+        among = rw append-nil (IsSubBag-trans new.items kept old.items (IsSubBag-same new.items kept h.bag) (IsSubBag-picked h.answers old.items));
       }
 
   -- xs came in, which is the list or a beginning of it

@@ -3,7 +3,7 @@ use Rattle.dary_heap.proofs.{◌≡◌, ◌↔◌, ℕ, ◌+◌, ◌-◌, ◌*�
 use Rattle.dary_heap.proofs.{Contains-append_left, Contains-append_right, IsPermutation-refl, IsPermutation-sym, IsPermutation-trans, IsPermutation-cons, length_permutation, OnFalse, IsTotalOrder}
 use Rattle.dary_heap.proofs.{Ordering, written, IsSameBag, IsGreatest-same_bag, RisesWithin, refreshes, pop_bound, sink_bound, Contents, IsHeapOrdered, IsExceeded, Act, Write, Refresh, End, PutBack}
 use Rattle.dary_heap.proofs.{TakeOut, Seen, Old, Changed, Loan, Loaned, Acts, Ends, Serves, IsState, front, length-set, zero-le, Contains-first, IsAmong, IsAmong-cons, IsAmong-tail, IsAmong-same}
-use Rattle.dary_heap.proofs.{times_depth-later, ordered_state}
+use Rattle.dary_heap.proofs.{times_depth-later, ordered_state, IsSubBag, IsSubBag-same, IsSubBag-trans, IsSubBag-tail, append-nil, IsPermutation-middle, IsPermutation-append_left}
 use Rattle.dary_heap.proofs.Cancelling.{IsPermutation-uncons}
 use Rattle.dary_heap.proofs.run.SameStates.{HasGreater-same_bag}
 
@@ -37,17 +37,23 @@ module _ {X : Type 0} (cmp : X → X → Ordering) where
   Acts-more held rest acts seen mid left act sight last end h more = absurd h
 
   -- what is held and what is left were there or were written
-  pub Acts-among : (values : List X) (held : X) (rest : List X) (acts : List (Act X)) (seen : List (Seen X)) (last : X) (left : List X) → IsAmong values (held ∷ rest) →
-      IsAmong values (written acts) → Acts cmp held rest acts seen last left → IsAmong values (last ∷ left)
-  Acts-among values held rest [] [] last left among wrote h =
-      subst (λ v. IsAmong values (v ∷ left)) (sym h.0) (IsAmong-same values (held ∷ rest) (held ∷ left) (IsPermutation-cons held rest left h.1) among)
-  Acts-among values held rest (Write x ∷ acts) (Old y ∷ seen) last left among wrote h =
-      let now = IsAmong-cons values x rest (wrote x (Contains-first x (written acts))) (IsAmong-tail values held rest among) in
-      Acts-among values x rest acts seen last left now (IsAmong-tail values x (written acts) wrote) h.1
-  Acts-among values held rest (Refresh ∷ acts) (Changed true ∷ seen) last left among wrote h =
-      Acts-among values h.1.0 h.1.1 acts seen last left (IsAmong-same values (held ∷ rest) (h.1.0 ∷ h.1.1) h.1.3 among) wrote h.1.4
-  Acts-among values held rest (Refresh ∷ acts) (Changed false ∷ seen) last left among wrote h = Acts-among values held rest acts seen last left among wrote h.1
-  Acts-among values held rest acts seen last left among wrote h = absurd h
+  pub Acts-among : (held : X) (rest : List X) (acts : List (Act X)) (seen : List (Seen X)) (last : X) (left : List X) → Acts cmp held rest acts seen last left →
+      IsSubBag (last ∷ left) ((held ∷ rest) ++ written acts)
+  Acts-among held rest [] [] last left h =
+      rw (append-nil, h.0) (IsSubBag-same (held ∷ left) (held ∷ rest) (IsPermutation-cons held rest left h.1))
+  Acts-among held rest (Write x ∷ acts) (Old y ∷ seen) last left h =
+      let overwritten = IsPermutation-cons held (rest ++ x ∷ written acts) (x ∷ (rest ++ written acts)) (IsPermutation-middle rest x (written acts)) in
+      let now = x ∷ (rest ++ written acts) in
+      let all = held ∷ (rest ++ x ∷ written acts) in
+      let others = IsSubBag-trans now (held ∷ now) all (IsSubBag-tail held now) (IsSubBag-same (held ∷ now) all overwritten) in
+      IsSubBag-trans (last ∷ left) now all (Acts-among x rest acts seen last left h.1) others
+  Acts-among held rest (Refresh ∷ acts) (Changed true ∷ seen) last left h =
+      let same = IsPermutation-append_left (written acts) (held ∷ rest) (h.1.0 ∷ h.1.1) h.1.3 in
+      let all = (held ∷ rest) ++ written acts in
+      let now = (h.1.0 ∷ h.1.1) ++ written acts in
+      IsSubBag-trans (last ∷ left) now all (Acts-among h.1.0 h.1.1 acts seen last left h.1.4) (IsSubBag-same now all same)
+  Acts-among held rest (Refresh ∷ acts) (Changed false ∷ seen) last left h = Acts-among held rest acts seen last left h.1
+  Acts-among held rest acts seen last left h = absurd h
 
 refreshes-append : {X : Type 0} (acts more : List (Act X)) → refreshes (acts ++ more) ≡ refreshes acts + refreshes more
 refreshes-append [] more = omega arith
@@ -125,17 +131,14 @@ module _ {X : Type 0} {cmp : X → X → Ordering} {D : ℕ} where
         (record { rises = counted.rises; within = omega (arith, counted.within) })
 
   -- what the heap and the acts held
-  brought : {begun now : Contents X} {acts : List (Act X)} {seen : List (Seen X)} → IsHeld cmp D begun now acts seen → IsAmong (begun.items ++ (written acts ++ [])) now.items
-  brought {begun} {now} {acts} {seen} h =
-      let held : IsAmong (begun.items ++ (written acts ++ [])) (h.first ∷ h.rest) = λ x in'. Contains-append_left begun.items (written acts ++ []) x (rw h.from in') in
-      let wrote = λ (x : X) (in' : Contains (written acts) x). Contains-append_right begun.items (written acts ++ []) x (Contains-append_left (written acts) [] x in') in
-      rw h.to (Acts-among cmp _ h.first h.rest acts seen h.last h.left held wrote h.acted)
+  brought : {begun now : Contents X} {acts : List (Act X)} {seen : List (Seen X)} → IsHeld cmp D begun now acts seen → IsSubBag now.items (begun.items ++ (written acts ++ []))
+  brought {begun} {now} {acts} {seen} h = rw (h.to, h.from, append-nil) (Acts-among cmp h.first h.rest acts seen h.last h.left h.acted)
 
 module _ {X P : Type 0} {cmp : X → X → Ordering} {calls : P → X → Bool → P → Type 0} {D : ℕ} where
   -- from the heap at the start through the loan at its end to what that leaves behind its reference, which is what the heap is then
   module _ {old mid : Contents X} {acts : List (Act X)} {seen : List (Seen X)} (h : IsHeld cmp D old mid acts seen) (end new : Contents X) (back : new ≡ end)
       (ordered : IsHeapOrdered cmp D end.items) where
-    ended : (kind : End) (given : Option X) (last_cost : ℕ) → RisesWithin mid.comparisons end.comparisons last_cost → last_cost ≤ sink_bound D (length mid.items) → IsAmong mid.items end.items →
+    ended : (kind : End) (given : Option X) (last_cost : ℕ) → RisesWithin mid.comparisons end.comparisons last_cost → last_cost ≤ sink_bound D (length mid.items) → IsSubBag end.items mid.items →
         Ends cmp h.last h.left kind given end.items → Serves cmp calls D old (Loan acts kind) (Loaned (Some (seen, given))) new
     ended kind given last_cost counted few among ends = rw back record {
       step = (h.first, h.rest, h.last, h.left, ap front h.from, rw (← h.from) (IsPermutation-refl old.items), h.acted, ends);
@@ -143,12 +146,12 @@ module _ {X P : Type 0} {cmp : X → X → Ordering} {calls : P → X → Bool �
       served = tt;
       sure = zero-le;
       ordered = ordered;
-      among = λ x in'. brought h x (among x in');
+      among = IsSubBag-trans end.items mid.items _ among (brought h);
     }
 
     pub put_back : IsTotalOrder cmp → RisesWithin mid.comparisons end.comparisons (sink_bound D (length mid.items)) → IsSameBag mid.items end.items →
         ((IsExceeded cmp mid.items → ⊥) → front end.items ≡ front mid.items) → Serves cmp calls D old (Loan acts PutBack) (Loaned (Some (seen, None))) new
-    put_back total counted bag first = ended PutBack None _ counted (omega arith) (IsAmong-same mid.items mid.items end.items bag (λ x in'. in')) (
+    put_back total counted bag first = ended PutBack None _ counted (omega arith) (IsSubBag-same end.items mid.items bag) (
       rw h.to at bag,
       ordered_state total D end.items ordered,
       λ none. first (λ over. none (rw h.to at over)) ∙ ap front h.to,
@@ -161,5 +164,5 @@ module _ {X P : Type 0} {cmp : X → X → Ordering} {calls : P → X → Bool �
         let is : item ≡ h.last = (cc) in
         let whole : IsSameBag (h.last ∷ h.left) (h.last ∷ end.items) = rw (h.to, is) at bag in
         let few = times_depth-later D (length mid.items - 2) (length mid.items - 1) (omega arith) in
-        let among = IsAmong-tail mid.items item end.items (IsAmong-same mid.items mid.items (item ∷ end.items) bag (λ x in'. in')) in
+        let among = IsSubBag-trans end.items (item ∷ end.items) mid.items (IsSubBag-tail item end.items) (IsSubBag-same (item ∷ end.items) mid.items bag) in
         ended TakeOut (Some item) _ counted few among (is, IsPermutation-uncons h.last h.left end.items whole, ordered_state total D end.items ordered)

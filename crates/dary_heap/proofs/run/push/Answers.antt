@@ -1,4 +1,4 @@
-use Rattle.dary_heap.proofs.{◌∷◌, ◌++◌, [], refl, arith, length_permutation, IsPermutation-to_front, IsPermutation-trans, IsAmong-same, same_state}
+use Rattle.dary_heap.proofs.{◌∷◌, ◌++◌, [], refl, arith, length_permutation, IsPermutation-to_front, IsPermutation-trans, IsAmong-same, same_state, IsSubBag-same}
 use Rattle.dary_heap.proofs.run.Serving.{serves_same}
 use Rattle.dary_heap.proofs.run.push.Goals as goal
 
@@ -11,7 +11,7 @@ returns-in-Ok g c =
       served = λ some. refl;
       sure = omega (arith, length_permutation _ _ e.bag, e.capacity);
       ordered = e.ordered;
-      among = IsAmong-same _ (c.args.heap.now.items ++ c.args.item ∷ []) _ (IsPermutation-trans _ _ _ (IsPermutation-to_front _ _) e.bag) (λ y in'. in');
+      among = IsSubBag-same _ (c.args.heap.now.items ++ c.args.item ∷ []) (IsPermutation-trans _ _ _ (IsPermutation-to_front _ _) e.bag);
     }
 
 pub returns-in-Err : goal.returns-in-Err

@@ -1,8 +1,8 @@
 use Rattle.dary_heap.proofs.{◌≡◌, [], ◌∷◌, ◌++◌, length, map, All, Contains, sym, ap, ◌∙◌, subst, arith, inl, inr, append_assoc, append-nil, length-append, map-append, nil_from_length}
-use Rattle.dary_heap.proofs.{Contains-append_left, Contains-append_right, Contains-append_cases, into_iter_items, MayCall, items_in, ordered_state}
+use Rattle.dary_heap.proofs.{Contains-append_left, Contains-append_right, Contains-append_cases, into_iter_items, MayCall, items_in, ordered_state, IsSubBag-front}
 use Rattle.dary_heap.proofs.Callable.{all_callable}
 use Rattle.dary_heap.specs.Reading as read
-use Rattle.dary_heap.proofs.run.Runs.{callable_one, items_of_one, Runs-begins, Runs-more}
+use Rattle.dary_heap.proofs.run.Runs.{callable_one, came_with, Runs-begins, Runs-more}
 use Rattle.dary_heap.proofs.run.run.Goals as goal
 
 pub loop-command-init : goal.loop-command-init
@@ -12,7 +12,7 @@ loop-command-init g c =
       split = sym gives.0;
       space = omega (arith, ap length c.in-Ok.ensures.items, gives.1, c.len-2.ensures, c.in-Ok.ensures.capacity);
       runs = rw c.in-Ok.ensures.items (Runs-begins c.args.heap.now (ordered_state g.met.T.Ord.total g.row.D c.args.heap.now.items c.len.ensures.ordered));
-      among = λ x in'. Contains-append_left c.args.heap.now.items _ x in';
+      among = IsSubBag-front c.args.heap.now.items [];
       ordered = c.len.ensures.ordered;
     }
 
@@ -31,9 +31,8 @@ serve-requires g c =
         assumption,
         (
           assumption,
-          callable_one g.P.FnMut (c.args.heap.now.items ++ items_in (read.commands all)) c.loop-command.heap.items (read.commands c.loop-command.yielded)
-              (read.command c.in-Some.command) (read.commands (into_iter_items c.next.new.self)) c.loop-command.invariant.among
-              (subst (λ cs. All (MayCall g.P.FnMut (c.args.heap.now.items ++ items_in (read.commands all))) cs) seen may),
+          callable_one g.P.FnMut c.args.heap.now.items c.loop-command.heap.items (read.commands c.loop-command.yielded) (read.command c.in-Some.command)
+              (read.commands (into_iter_items c.next.new.self)) c.loop-command.invariant.among (subst (λ cs. All (MayCall g.P.FnMut (c.args.heap.now.items ++ items_in cs)) cs) seen may),
         ),
       ),
     )
@@ -47,17 +46,13 @@ loop-command-preserved g c =
     let command = c.in-Some.command in
     let rest = into_iter_items c.next.new.self in
     let is : all ≡ yielded ++ (command ∷ rest) = before.split ∙ ap (λ xs. yielded ++ xs) steps.0 in
-    let seen = ap (map read.command) is ∙ map-append read.command yielded (command ∷ rest) in
     let replies = c.loop-command.replies.items in
     record {
       split = is ∙ sym (append_assoc yielded (command ∷ []) rest);
       space = omega (arith, ap length c.push_reserved.ensures.items, length-append replies (c.serve.result ∷ []), c.push_reserved.ensures.capacity, steps.1, before.space);
       runs = rw (c.push_reserved.ensures.items, map-append read.command yielded (command ∷ []), map-append read.reply replies (c.serve.result ∷ [])) (Runs-more before.runs c.serve.ensures);
-      among = λ x in'. elim (Contains-append_cases c.loop-command.heap.items _ x (c.serve.ensures.among x in')) [
-        | inl held ↦ before.among x held
-        | inr brought ↦ Contains-append_right c.args.heap.now.items _ x
-            (subst (λ cs. Contains (items_in cs) x) (sym seen) (items_of_one (read.commands yielded) (read.command command) (read.commands rest) x brought))
-      ];
+      among = rw (map-append read.command yielded (command ∷ []))
+          (came_with c.args.heap.now.items c.loop-command.heap.items _ (read.commands yielded) (read.command command) before.among c.serve.ensures.among);
       ordered = c.serve.ensures.ordered;
     }
 
