@@ -60,8 +60,8 @@ pub use Rattle.dary_heap.specs.Run.{IsServed, Runs, Serves, room, sure_after}
 pub use Rattle.dary_heap.specs.shortest_path.Searching.{AreApart, HasTooLarge, IsAlong, Relaxes, state, state_cmp}
 pub use Rattle.dary_heap.specs.sift.Sifting.{IsLastGreatest, IsOrderedButAbove, IsOrderedButBelow, IsOrderedWithin, StaysFirst}
 unfoldable pub use Rattle.dary_heap.specs.sift.Sifting.{sift_down_cost}
-pub use Rattle.dary_heap.specs.State.{IsJoined, IsSameState, IsState, front, front_with}
-pub use Rattle.dary_heap.specs.Tail.{IsWeight}
+pub use Rattle.dary_heap.specs.BagState.{IsJoined, IsSameState, IsState, front, front_with}
+pub use Rattle.dary_heap.specs.TailRepair.{IsWeight}
 pub use Rattle.dary_heap.specs.Walk.{Graph, HasCritical, HasEdge, IsLeastCost, IsUnreached, IsWalk, IsWithin, NoneCriticalBelow, cost_of}
 pub use Rattle.dary_heap.specs.declared.hole.pointers.Hole.{Hole}
 pub use Rattle.dary_heap.specs.declared.shortest_path.Edge.{Edge}

@@ -6,7 +6,6 @@ pub mod Building
 pub mod Contents
 pub mod Drain
 pub mod DrainSorted
-pub mod Ends
 pub mod Extending
 pub mod Filtering
 pub mod HeapOrder
@@ -21,9 +20,9 @@ pub mod Popping
 pub mod Reading
 pub mod Room
 pub mod Run
-pub mod Sizes
-pub mod State
-pub mod Tail
+pub mod SizeHints
+pub mod BagState
+pub mod TailRepair
 pub mod TwoArities
 pub mod Walk
 -- for private functions alone, by the module that they stand in

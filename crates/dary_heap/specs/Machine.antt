@@ -4,7 +4,7 @@ use Rattle.std.specs.Prelude.{◌≡◌, ◌≢◌, ◌⊎◌, ℕ, zero, suc, �
 use Rattle.std.specs.List.Retain.{IsFiltered}
 use Rattle.std.specs.declared.cmp.Ordering.{Ordering}
 use Rattle.dary_heap.specs.Bag.{IsSameBag, IsGreatest, HasGreater}
-use Rattle.dary_heap.specs.State.{IsState, IsSameState, IsJoined, front, front_with}
+use Rattle.dary_heap.specs.BagState.{IsState, IsSameState, IsJoined, front, front_with}
 
 -- what may happen to a loan, how it ends, and what each act sees
 pub data Act (T : Type 0) : Type 0 where

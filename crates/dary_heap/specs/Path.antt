@@ -1,5 +1,5 @@
 -- Moves of an item along the path from a place to the first. D is the const parameter.
-use Rattle.std.specs.Prelude.{◌≡◌, ℕ, zero, suc, ◌<◌, ◌⊎◌, List}
+use Rattle.std.specs.Prelude.{◌≡◌, ℕ, zero, suc, ◌-◌, ◌<◌, ◌⊎◌, List, length, take}
 use Rattle.std.specs.List.{swap}
 use Rattle.dary_heap.specs.HeapOrder.{parent}
 
@@ -31,3 +31,7 @@ GoesTo D from to old new = GoesUp D from to old new ⊎ GoesUp D to from new old
 pub record IsOnPath (D low high i : ℕ) : Type 0 where
   pub above_low : IsAbove D i low
   pub below_high : IsAbove D high i
+
+-- the item at a place changes places with the last one, which goes from there to place `to`: each item on the way moves a level, and the others stay
+abbrev pub GivesPlace : {T : Type 0} → ℕ → ℕ → ℕ → List T → List T → Type 0
+GivesPlace D place to old new = GoesTo D place to (take (length old - 1) (swap old place (length old - 1))) (take (length new - 1) new)

@@ -7,7 +7,7 @@ use Rattle.dary_heap.specs.Bounds.{RisesWithin, charge, charges}
 use Rattle.dary_heap.specs.Contents.{Contents}
 use Rattle.dary_heap.specs.HeapOrder.{IsHeapOrdered}
 use Rattle.dary_heap.specs.Machine.{Command, Reply, Push, Pop, PopIf, Ask, Len, Reserve, Pushed, Done, Step, Steps, last_state}
-use Rattle.dary_heap.specs.State.{IsState}
+use Rattle.dary_heap.specs.BagState.{IsState}
 
 -- how many pushes there is room for
 abbrev pub room : {T : Type 0} → Contents T → ℕ

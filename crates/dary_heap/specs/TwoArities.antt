@@ -7,7 +7,7 @@ use Rattle.std.specs.declared.cmp.Ordering.TheVariants.{Equal}
 use Rattle.dary_heap.specs.Asking.{items_in}
 use Rattle.dary_heap.specs.Bag.{IsSameBag}
 use Rattle.dary_heap.specs.Machine.{Command, Reply, PopIf, Ask, Retain, Append, Drain, PushRefused, ExtendRefused, Refused, Steps, last_state}
-use Rattle.dary_heap.specs.State.{IsState}
+use Rattle.dary_heap.specs.BagState.{IsState}
 
 -- the command holds no predicate and no heap, and no drain in slice order
 abbrev pub IsSettled : {T P : Type 0} → Command T P → Type 0

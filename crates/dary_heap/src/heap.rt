@@ -10,7 +10,7 @@ ghost use Rattle.dary_heap.specs.Bounds.{RisesWithin, push_bound, pop_bound};
 ghost use Rattle.dary_heap.specs.Contents.{Contents, contents_of};
 ghost use Rattle.dary_heap.specs.HeapOrder.{IsHeapOrdered};
 ghost use Rattle.dary_heap.specs.Popping.{IsPop};
-ghost use Rattle.dary_heap.specs.State.{front, front_with};
+ghost use Rattle.dary_heap.specs.BagState.{front, front_with};
 
 use crate::sift::{ByOrd, Judge, pop_with, push_with};
 use std::alloc::Global;

@@ -50,7 +50,7 @@ impl<'a, T: Drop, const D: usize, J: Judge<T>, I: LoanedItems<T>> Drop for PeekM
     ghost use Rattle.dary_heap.specs.Bounds.{RisesWithin, pop_bound, sink_bound};
     ghost use Rattle.dary_heap.specs.HeapOrder.{IsHeapOrdered};
     ghost use Rattle.dary_heap.specs.PeekMut.{loaned, is_written};
-    ghost use Rattle.dary_heap.specs.State.{front};
+    ghost use Rattle.dary_heap.specs.BagState.{front};
 
     fn drop(self)
         ensures bag { IsSameBag (loaned self.entry).items self.exit.0.now.items }

@@ -181,7 +181,7 @@ pub fn run<T: Ord + Drop, const D: usize, P: FnMut(&T) -> bool>(
         return Err(commands);
     };
     for command in commands {
-        replies.push_reserved(serve(alloc, heap, command));
+        replies.push_reserved(carry_out(alloc, heap, command));
     }
     Ok(replies)
 }
@@ -205,7 +205,7 @@ pub fn two_arities<T: Ord, P: FnMut(&T) -> bool>()
 {}
 
 /// Carries one command out.
-fn serve<T: Ord + Drop, const D: usize, P: FnMut(&T) -> bool>(
+fn carry_out<T: Ord + Drop, const D: usize, P: FnMut(&T) -> bool>(
     alloc: Global,
     heap: &mut DaryHeap<T, D>,
     command: Command<T, D, P>,

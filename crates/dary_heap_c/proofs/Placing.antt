@@ -7,8 +7,7 @@ use Rattle.dary_heap.proofs.Order.{Exchanges, exchanges, slice_get-set_other, sl
 use Rattle.dary_heap.proofs.Placing.{each_moved, key_gone, keys_less, keys_moved}
 use Rattle.dary_heap.proofs.sift.Parts.{whole}
 use Rattle.dary_heap.proofs.sift.Sorting.{but_last_is, moved_last}
-use Rattle.dary_heap.specs.Ends.{GivesPlace}
-use Rattle.dary_heap.specs.Path.{GoesTo}
+use Rattle.dary_heap.specs.Path.{GivesPlace, GoesTo}
 use Rattle.dary_heap.specs.Places.{AreRightButAt}
 use Rattle.std.proofs.lemmas.List.{take_at}
 use Rattle.std.proofs.lemmas.List.Sorted.{IsPermutation-swap}

@@ -7,8 +7,7 @@ ghost use Rattle.std.specs.Prelude.{◌≡◌, ◌-◌, ◌<◌, ◌↔◌, ℕ,
 ghost use Rattle.dary_heap.specs.Bag.{IsSameBag};
 ghost use Rattle.dary_heap.specs.Bounds.{RisesWithin, fix_bound, pop_bound, push_bound};
 ghost use Rattle.dary_heap.specs.HeapOrder.{IsHeapOrdered, IsHeapOrderedButAt};
-ghost use Rattle.dary_heap.specs.Ends.{GivesPlace};
-ghost use Rattle.dary_heap.specs.Path.{GoesTo, GoesUp};
+ghost use Rattle.dary_heap.specs.Path.{GivesPlace, GoesTo, GoesUp};
 ghost use Rattle.dary_heap_c.specs.Places.{AreRight, AreRightOffPath, HasKeyAt, HaveKeys, IsFree, Rights};
 
 use crate::entry::Entry;

@@ -3,7 +3,7 @@ use Rattle.dary_heap_uses.proofs.Common.{Contains, IsPermutation-map, IsPermutat
 use Rattle.dary_heap.proofs.Bags.{Contains-first, Contains-later}
 use Rattle.dary_heap.proofs.Fronts.{ordered_state}
 use Rattle.dary_heap.specs.HeapOrder.{IsHeapOrdered}
-use Rattle.dary_heap.specs.State.{front}
+use Rattle.dary_heap.specs.BagState.{front}
 use Rattle.std.specs.List.{slice_set}
 use Rattle.std.specs.Prelude.{min, refl}
 

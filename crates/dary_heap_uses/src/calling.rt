@@ -5,7 +5,7 @@ ghost use Rattle.dary_heap.specs.Bag.{IsGreatest, IsSameBag};
 ghost use Rattle.dary_heap.specs.Bounds.{RisesWithin, pop_bound, sink_bound};
 ghost use Rattle.dary_heap.specs.HeapOrder.{IsHeapOrdered};
 ghost use Rattle.dary_heap.specs.Popping.{IsGivenDescending};
-ghost use Rattle.dary_heap.specs.State.{front};
+ghost use Rattle.dary_heap.specs.BagState.{front};
 
 use dary_heap::sift::{ByOrd, LeastFirst, fix_with};
 use dary_heap::{BinaryHeap, DaryHeap, TernaryHeap};

@@ -9,7 +9,7 @@ ghost use Rattle.dary_heap.specs.Bag.{IsSameBag};
 ghost use Rattle.dary_heap.specs.Bounds.{RisesWithin, fix_bound, push_bound};
 ghost use Rattle.dary_heap.specs.HeapOrder.{IsHeapOrdered, depth};
 ghost use Rattle.dary_heap.specs.Path.{GoesTo, GoesUp};
-ghost use Rattle.dary_heap.specs.State.{front, front_with};
+ghost use Rattle.dary_heap.specs.BagState.{front, front_with};
 
 use super::DaryHeap;
 use crate::sift::{Judge, fix_with, push_reserved_with, sift_to_bottom_with, sift_up_with};

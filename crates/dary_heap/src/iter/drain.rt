@@ -3,7 +3,7 @@ ghost use Rattle.std.specs.Prelude.{◌≡◌, ◌^◌, ◌<◌, length};
 ghost use Rattle.std.specs.Borrow.{sem};
 ghost use Rattle.std.specs.Iterator.{YieldsFirst, YieldsLast, item_count};
 ghost use Rattle.std.specs.Iterator.Runs.{YieldsInOrder, YieldsInReverse};
-ghost use Rattle.dary_heap.specs.Sizes.{HintsExactly};
+ghost use Rattle.dary_heap.specs.SizeHints.{HintsExactly};
 
 use super::IntoIter;
 use crate::heap::DaryHeap;

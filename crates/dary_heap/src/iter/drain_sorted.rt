@@ -1,7 +1,7 @@
 //! The iterator that pops the items of a heap and leaves it empty.
 ghost use Rattle.std.specs.Prelude.{◌≡◌, ◌^◌, ◌<◌, [], length, Some, vec_capacity};
 ghost use Rattle.std.specs.Iterator.{item_count};
-ghost use Rattle.dary_heap.specs.Sizes.{HintsExactly};
+ghost use Rattle.dary_heap.specs.SizeHints.{HintsExactly};
 ghost use Rattle.dary_heap.specs.Bounds.{RisesWithin, pops_bound};
 ghost use Rattle.dary_heap.specs.HeapOrder.{IsHeapOrdered};
 ghost use Rattle.dary_heap.specs.Popping.{GivesDescending};

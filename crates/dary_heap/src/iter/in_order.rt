@@ -11,7 +11,7 @@ ghost use Rattle.dary_heap.specs.Bag.{IsSameBag};
 ghost use Rattle.dary_heap.specs.Bounds.{RisesWithin, candidates_bound, push_bound};
 ghost use Rattle.dary_heap.specs.HeapOrder.{arity as arity_of, IsHeapOrdered};
 ghost use Rattle.dary_heap.specs.IterSorted.{InOrder, StartsInOrder, ComparesByClone, GivesNext, GivesGreatest, lent};
-ghost use Rattle.dary_heap.specs.Sizes.{HintsNumber};
+ghost use Rattle.dary_heap.specs.SizeHints.{HintsNumber};
 ghost use Rattle.dary_heap.specs.iter.Candidates.{AreCandidates, StandAtPlaces, by_shown, not_given, places_of};
 
 use crate::heap::{DaryHeap, pop_ordered};

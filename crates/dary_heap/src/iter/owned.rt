@@ -2,7 +2,7 @@
 ghost use Rattle.std.specs.Prelude.{◌≡◌, ◌^◌, ◌<◌, [], List, length, Some, Contains, IfOk, IsOk};
 ghost use Rattle.std.specs.Iterator.{YieldsFirst, YieldsLast, item_count};
 ghost use Rattle.std.specs.Iterator.Runs.{YieldsInOrder, YieldsInReverse};
-ghost use Rattle.dary_heap.specs.Sizes.{HintsExactly};
+ghost use Rattle.dary_heap.specs.SizeHints.{HintsExactly};
 
 use crate::heap::DaryHeap;
 use crate::sift::Judge;

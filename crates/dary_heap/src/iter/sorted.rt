@@ -1,7 +1,7 @@
 //! The iterator that pops the items of a heap.
 ghost use Rattle.std.specs.Prelude.{◌≡◌, ◌^◌, ◌<◌, [], length, Some, Contains, IfOk, IsOk};
 ghost use Rattle.std.specs.Iterator.{item_count};
-ghost use Rattle.dary_heap.specs.Sizes.{HintsExactly};
+ghost use Rattle.dary_heap.specs.SizeHints.{HintsExactly};
 ghost use Rattle.dary_heap.specs.Bounds.{RisesWithin, build_bound};
 ghost use Rattle.dary_heap.specs.Building.{IsCopiedFreely, IsCopyOf};
 ghost use Rattle.dary_heap.specs.Contents.{Contents};

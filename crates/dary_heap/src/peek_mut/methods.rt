@@ -7,7 +7,7 @@ ghost use Rattle.dary_heap.specs.Bounds.{RisesWithin, pop_bound, sink_bound};
 ghost use Rattle.dary_heap.specs.HeapOrder.{IsHeapOrdered};
 ghost use Rattle.dary_heap.specs.Loan.{IsExceeded};
 ghost use Rattle.dary_heap.specs.PeekMut.{loaned, is_written, lender, left_behind};
-ghost use Rattle.dary_heap.specs.State.{IsState, front};
+ghost use Rattle.dary_heap.specs.BagState.{IsState, front};
 ghost use Rattle.dary_heap.specs.contracts.heap.DaryHeap.{the_row as heap_row};
 
 use super::PeekMut;

@@ -2,7 +2,7 @@
 ghost use Rattle.std.specs.Prelude.{◌≡◌, ℕ, length, min, Some, IfOk, IsOk};
 ghost use Rattle.std.specs.Iterator.{at_most};
 ghost use Rattle.dary_heap.specs.IterSorted.{ComparesByClone, GivesGreatest, GivesNext, InOrder, StartsInOrder};
-ghost use Rattle.dary_heap.specs.Sizes.{HintsNumber};
+ghost use Rattle.dary_heap.specs.SizeHints.{HintsNumber};
 ghost use Rattle.indexed_heap.specs.Entries.{by_item};
 ghost use Rattle.indexed_heap.specs.Iterating.{shown};
 

@@ -2,7 +2,7 @@
 ghost use Rattle.std.specs.Prelude.{◌≡◌, ℕ, length, min, IfOk, IsOk};
 ghost use Rattle.std.specs.Iterator.{at_most};
 ghost use Rattle.dary_heap.specs.IterSorted.{ComparesByClone, GivesGreatest, GivesNext, StartsInOrder};
-ghost use Rattle.dary_heap.specs.Sizes.{HintsNumber};
+ghost use Rattle.dary_heap.specs.SizeHints.{HintsNumber};
 ghost use Rattle.named_heap.specs.Entries.{by_item};
 ghost use Rattle.named_heap.specs.Iterating.{shown};
 

@@ -1,7 +1,7 @@
 //! The iterator that lends the entries of a heap.
 ghost use Rattle.std.specs.Prelude.{◌≡◌, ◌^◌, ◌<◌, length, ⊤};
 ghost use Rattle.std.specs.Iterator.{YieldsFirstBy, YieldsLastBy, item_count};
-ghost use Rattle.dary_heap.specs.Sizes.{HintsExactly};
+ghost use Rattle.dary_heap.specs.SizeHints.{HintsExactly};
 ghost use Rattle.named_heap.specs.Iterating.{ShowsInOrder, ShowsInReverse, shown};
 
 use crate::heap::NamedHeap;

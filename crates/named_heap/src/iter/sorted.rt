@@ -2,7 +2,7 @@
 ghost use Rattle.std.specs.Prelude.{◌≡◌, ◌^◌, ◌<◌, length};
 ghost use Rattle.std.specs.Iterator.{item_count};
 ghost use Rattle.dary_heap.specs.Popping.{GivesDescending, IsPop};
-ghost use Rattle.dary_heap.specs.Sizes.{HintsExactly};
+ghost use Rattle.dary_heap.specs.SizeHints.{HintsExactly};
 ghost use Rattle.named_heap.specs.Entries.{AreSound, by_item};
 ghost use Rattle.named_heap.specs.Iterating.{contents};
 

@@ -16,8 +16,8 @@ loop-command-init g c =
       ordered = c.len.ensures.ordered;
     }
 
-pub serve-requires : goal.serve-requires
-serve-requires g c =
+pub carry_out-requires : goal.carry_out-requires
+carry_out-requires g c =
     let steps = c.in-Some.ensures.steps in
     let all = c.args.commands.items in
     let may : All (MayCall g.P.FnMut (c.args.heap.now.items ++ items_in (read.commands all))) (read.commands all) = elim c.requires [
@@ -49,11 +49,11 @@ loop-command-preserved g c =
     let replies = c.loop-command.replies.items in
     record {
       split = is ∙ sym (append_assoc yielded (command ∷ []) rest);
-      space = omega (arith, ap length c.push_reserved.ensures.items, length-append replies (c.serve.result ∷ []), c.push_reserved.ensures.capacity, steps.1, before.space);
-      runs = rw (c.push_reserved.ensures.items, map-append read.command yielded (command ∷ []), map-append read.reply replies (c.serve.result ∷ [])) (Runs-more before.runs c.serve.ensures);
+      space = omega (arith, ap length c.push_reserved.ensures.items, length-append replies (c.carry_out.result ∷ []), c.push_reserved.ensures.capacity, steps.1, before.space);
+      runs = rw (c.push_reserved.ensures.items, map-append read.command yielded (command ∷ []), map-append read.reply replies (c.carry_out.result ∷ [])) (Runs-more before.runs c.carry_out.ensures);
       among = rw (map-append read.command yielded (command ∷ []))
-          (came_with c.args.heap.now.items c.loop-command.heap.items _ (read.commands yielded) (read.command command) before.among c.serve.ensures.among);
-      ordered = c.serve.ensures.ordered;
+          (came_with c.args.heap.now.items c.loop-command.heap.items _ (read.commands yielded) (read.command command) before.among c.carry_out.ensures.among);
+      ordered = c.carry_out.ensures.ordered;
     }
 
 pub returns-clause-runs : goal.returns-clause-runs

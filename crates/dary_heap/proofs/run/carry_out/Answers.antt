@@ -1,7 +1,7 @@
 use Rattle.dary_heap.proofs.{ap, arith, inr, le_refl, refl, zero-le, same_state}
 use Rattle.dary_heap.specs.Reading as read
 use Rattle.dary_heap.proofs.run.Serving.{asks, pops_where, retained, serves_emptied, serves_same}
-use Rattle.dary_heap.proofs.run.serve.Goals as goal
+use Rattle.dary_heap.proofs.run.carry_out.Goals as goal
 
 pub pop_if-requires : goal.pop_if-requires
 pop_if-requires g c =
