@@ -1,13 +1,12 @@
-"""The files of the wrong bodies: what each says, the edit that it makes, and the table of them all."""
+"""The files of the wrong bodies: what each says, and the edit that it makes."""
 import pathlib
 import re
 from dataclasses import dataclass, field
 
 TOP = pathlib.Path(__file__).resolve().parent.parent
-# `rt ci` tries the edits of the first, of which it reads the lines `file:`, `old:` and `new:` alone.
+# `rt ci` tries the edits of the first, of which it reads the lines `file:`, `old:` and `new:` alone. There the others begin with `# `.
 FOLDERS = ("must-fail", "wrong_bodies")
-NEEDED, OTHERS = ("function", "body", "breaks", "case"), ("callers", "without", "shown")
-START, END = "<!-- `.ci/wrong_bodies --table` makes this table. -->\n", "<!-- Here the table ends. -->\n"
+NEEDED, OTHERS = ("function", "body", "breaks", "case"), ("callers", "without")
 
 
 @dataclass
@@ -25,10 +24,8 @@ class Body:
             return f"it has no line '{[*lacking, 'breaks'][0]}:', or one without a clause, or a line of its own"
         if not self.source() or not all(old and re.match(r"(src|specs|proofs)/(?!.*\.\.)", file) for file, old, _ in self.pairs):
             return "it has no 'old:' and 'new:' of a source, or no 'file:' before them"
-        if self.says.get("shown", "by its case alone") != "by its case alone":
-            return "its line 'shown:' isn't 'by its case alone'"
-        if self.folder == FOLDERS[0] and {"without", "shown"} & {*self.says}:
-            return "rt reads no 'without:', and there a contract refuses each"
+        if self.folder == FOLDERS[0] and "without" in self.says:
+            return "rt reads no 'without:'"
         return self.edited(TOP / "crates" / self.crate)[1]
 
     def functions(self):
@@ -73,7 +70,7 @@ def read(path):
     crate, folder, *below = path.relative_to(TOP / "crates").with_suffix("").parts
     bodies, pair = [], {}
     for line in path.read_text(encoding="utf-8").splitlines():
-        word, _, text = line.partition(":")
+        word, _, text = line.removeprefix("# ").partition(":")
         text = text.removeprefix(" ")
         if word == "name" or not bodies:
             bodies.append(Body(crate, folder, text.strip() if word == "name" else path.stem))
@@ -92,17 +89,3 @@ def read_all():
     """Returns the wrong bodies of both folders, those of one source beside one another."""
     bodies = [body for folder in FOLDERS for it in TOP.glob(f"crates/*/{folder}/**/*.edit") for body in read(it)]
     return sorted(bodies, key=lambda it: (it.crate, it.source(), it.name))
-
-
-def document(text, bodies):
-    """Returns a document's text with the table of these bodies: a row for each source, with the clauses that each breaks."""
-    rows = {}
-    for it in bodies:
-        told = ", ".join([it.says["breaks"], *filter(None, [it.says.get("shown")])])
-        rows.setdefault((it.crate, it.source()), {folder: [] for folder in FOLDERS})[it.folder].append(f"`{it.name}` ({told})")
-    head = ["", "|source|tried by `rt ci`|tried by CI alone|", "|---|---|---|"]
-    lines = [
-        f"|[`{file.removeprefix('src/')}`](../crates/{crate}/{file}) of {crate}|{'|'.join(map(', '.join, names.values()))}|"
-        for (crate, file), names in rows.items()
-    ]
-    return text.partition(START)[0] + START + "\n".join([*head, *lines, "", ""]) + END + text.partition(END)[2]

@@ -34,6 +34,16 @@ def follow_all(pages, top):
     return [follow(page, it, top) for page, it in links if not re.match(r"[a-z]+:", it)]
 
 
+def program(page):
+    """Returns the program of the section 'A program' of a page, and what it prints: its first block of `rust`, and the block of
+    `text` after it."""
+    section = page.read_text(encoding="utf-8").partition("\n## A program\n")[2].partition("\n## ")[0]
+    blocks = FENCE.findall(section)
+    if [language for language, _ in blocks[:2]] != ["rust", "text"]:
+        raise SystemExit(f"{page}: its section 'A program' hasn't a block of `rust` and one of `text`")
+    return blocks[0][1], blocks[1][1]
+
+
 def told(summary, *checked):
     """Prints the faults of what was checked, a fault or None each, and how many there are. Returns the status to end with."""
     faults = [it for found in checked for it in found if it]

@@ -1,7 +1,6 @@
-//! Links the static library `dary_heap_bench`, which the command `libraries` here leaves in `target/libraries`, and the
-//! toolchain's C part, through which it takes memory. `DARY_HEAP_BENCH` names another folder of the first, and
-//! `RATTLE_C` that of the second. The program `keyed` gets the library `indexed_heap_bench` too, for which
-//! `INDEXED_HEAP_BENCH` names another folder.
+//! Links the static library `heap_bench`, which the command `libraries` here leaves in `target/libraries`, and the
+//! toolchain's C part, through which it takes memory. `HEAP_BENCH` names another folder of the first, and `RATTLE_C`
+//! that of the second.
 //!
 //! The files of C++ are compiled if there is a compiler: `c++`, or the one that `CXX` names. `CXXSTDLIB` names its
 //! library if that isn't the usual one. `SHIFT` moves the program's code, as README.md says.
@@ -15,21 +14,12 @@ fn main() {
         fail("RATTLE_C has to name the folder with the toolchain's C part, see README.md");
     };
     let built = concat!(env!("CARGO_MANIFEST_DIR"), "/target/libraries");
-    let library = said("DARY_HEAP_BENCH").unwrap_or_else(|| String::from(built));
-    link(&library, "dary_heap_bench");
+    let library = said("HEAP_BENCH").unwrap_or_else(|| String::from(built));
+    link(&library, "heap_bench");
     link(&toolchain, "libc_c");
     println!("cargo:rustc-check-cfg=cfg(has_cpp)");
-    let cpp = compile("src/rivals.cpp", "rivals.o");
-    pass("", &cpp);
-    // The program `keyed` alone gets these. If there is no such library, the linker says so.
-    let keyed = said("INDEXED_HEAP_BENCH").unwrap_or_else(|| String::from(built));
-    let keyed = format!("{keyed}/libindexed_heap_bench.a");
-    println!("cargo:rerun-if-changed={keyed}");
-    pass("-bin=keyed", &[keyed, format!("{toolchain}/liblibc_c.a")]);
-    pass(
-        "-bin=keyed",
-        &compile("src/bin/keyed/rivals.cpp", "keyed.o"),
-    );
+    compile("src/rivals.cpp", "rivals.o", "dary_heap_bench");
+    compile("src/bin/keyed/rivals.cpp", "keyed.o", "keyed");
     println!("cargo:rustc-check-cfg=cfg(is_shifted)");
     if said("SHIFT").is_some() {
         println!("cargo:rustc-cfg=is_shifted");
@@ -53,8 +43,8 @@ fn link(folder: &str, name: &str) {
     println!("cargo:rustc-link-lib=static={name}");
 }
 
-/// Compiles a file of C++, if there is a compiler. Returns what the linker is given.
-fn compile(file: &str, object: &str) -> Vec<String> {
+/// Compiles a file of C++, if there is a compiler, and has the linker of one program get it.
+fn compile(file: &str, object: &str, program: &str) {
     println!("cargo:rerun-if-changed={file}");
     // Where the compiler looks for headers.
     println!("cargo:rerun-if-env-changed=CPATH");
@@ -65,7 +55,7 @@ fn compile(file: &str, object: &str) -> Vec<String> {
     let mut command = Command::new(&compiler);
     // Fails if there is no such program.
     let Ok(status) = command.args(options).args(["-o", &object]).status() else {
-        return Vec::new();
+        return;
     };
     if !status.success() {
         fail(&format!("{compiler} fails on {file}"));
@@ -75,13 +65,8 @@ fn compile(file: &str, object: &str) -> Vec<String> {
     let usual = if is_of_apple { "c++" } else { "stdc++" };
     let library = said("CXXSTDLIB").unwrap_or_else(|| String::from(usual));
     // The library stands behind the object, which uses it.
-    vec![object, format!("-l{library}")]
-}
-
-/// Has the linker of each program get these, or that of the program which `to` names.
-fn pass(to: &str, arguments: &[String]) {
-    for argument in arguments {
-        println!("cargo:rustc-link-arg{to}={argument}");
+    for argument in [object, format!("-l{library}")] {
+        println!("cargo:rustc-link-arg-bin={program}={argument}");
     }
 }
 

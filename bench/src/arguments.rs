@@ -3,7 +3,7 @@
 use crate::workload::{Line, Workload, WORKLOADS};
 
 pub const USAGE: &str =
-    "usage: dary_heap_bench [--arities 2,3,4,8] [--sizes N,..] [--rounds 9] [WORKLOAD..]
+    "usage: dary_heap_bench [--arities 2,3,4,8] [--sizes N,..] [--rounds 5] [WORKLOAD..]
 An arity is 1 to 8, and a size 1 to 100000000.";
 
 pub struct Wanted {
@@ -19,7 +19,7 @@ impl Wanted {
     pub fn lines(&self) -> impl Iterator<Item = Line> + '_ {
         self.workloads.iter().flat_map(|workload| {
             let sizes = self.sizes.as_deref().unwrap_or(workload.sizes);
-            let arities = self.arities.iter().filter(|arity| workload.is_at(**arity));
+            let arities = self.arities.iter();
             arities.flat_map(move |arity| sizes.iter().map(|items| (**workload, *arity, *items)))
         })
     }
@@ -30,7 +30,7 @@ pub fn read(mut words: impl Iterator<Item = String>) -> Option<Wanted> {
     let mut wanted = Wanted {
         arities: vec![2, 3, 4, 8],
         sizes: None,
-        rounds: 9,
+        rounds: 5,
         workloads: Vec::new(),
     };
     let mut names = Vec::new();

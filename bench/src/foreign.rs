@@ -1,7 +1,7 @@
 //! The heaps that aren't in Rust: the heap of this repository and Rattle's own, as the functions of the static
-//! library `dary_heap_bench`, and those of C++, as the functions of `rivals.cpp`, if there is a C++ compiler.
+//! library `heap_bench`, and those of C++, as the functions of `rivals.cpp`, if there is a C++ compiler.
 
-use crate::items::{Entry, Item, Record, Text};
+use crate::items::{Item, Record};
 use crate::workload::{Call, Task};
 
 /// What stands for a std heap in place of an arity. Any other is that of this heap, or of boost's.
@@ -10,12 +10,12 @@ pub const STD: usize = 0;
 /// Makes a call on a heap, given the items, what a churn pushes, the length of a piece and where marks are
 /// written to. It returns how many marks it wrote, and `u64::MAX` if it has no such call or heap, or if memory
 /// allocation fails.
-pub type Function<G, M> = unsafe extern "C" fn(
+pub type Function<T, M> = unsafe extern "C" fn(
     call: Call,
     heap: usize,
-    items: *const G,
+    items: *const T,
     items_len: usize,
-    more: *const G,
+    more: *const T,
     more_len: usize,
     piece: usize,
     out: *mut M,
@@ -24,27 +24,21 @@ pub type Function<G, M> = unsafe extern "C" fn(
 
 /// Items on which the library has workloads.
 pub trait Foreign: Item + 'static {
-    /// What is handed in of an item.
-    type Given: 'static;
-
-    const LIBRARY: Function<Self::Given, Self::Mark>;
-    /// The function of C++, if there is one.
-    const CPP: Option<Function<Self::Given, Self::Mark>>;
-
-    /// What is handed in of the task's items, and of `more`.
-    fn given(task: &Task<Self>) -> (&[Self::Given], &[Self::Given]);
+    const LIBRARY: Function<Self, Self::Mark>;
+    /// None without a C++ compiler.
+    const CPP: Option<Function<Self, Self::Mark>>;
 }
 
 /// The function of this name and type.
 macro_rules! function {
-    ($name:ident($given:ty) -> $mark:ty) => {{
+    ($name:ident($item:ty) -> $mark:ty) => {{
         extern "C" {
             fn $name(
                 call: $crate::workload::Call,
                 heap: usize,
-                items: *const $given,
+                items: *const $item,
                 items_len: usize,
-                more: *const $given,
+                more: *const $item,
                 more_len: usize,
                 piece: usize,
                 out: *mut $mark,
@@ -58,42 +52,28 @@ macro_rules! function {
 pub(crate) use function;
 
 macro_rules! foreign {
-    ($($item:ty: [$given:ident; $items:ident, $more:ident] -> $mark:ty,
-        $here:ident $(, $cpp:ident)?;)*) => {
+    ($($item:ty => $mark:ty: $here:ident, $cpp:ident;)*) => {
         $(impl Foreign for $item {
-            type Given = $given;
-
-            const LIBRARY: Function<$given, $mark> = function!($here($given) -> $mark);
-            const CPP: Option<Function<$given, $mark>> = [
-                $(if cfg!(has_cpp) {
-                    Some(function!($cpp($given) -> $mark) as Function<$given, $mark>)
-                } else {
-                    None
-                },)?
-                None,
-            ][0];
-
-            fn given(task: &Task<$item>) -> (&[$given], &[$given]) {
-                (&task.$items, &task.$more)
-            }
+            const LIBRARY: Function<$item, $mark> = function!($here($item) -> $mark);
+            #[cfg(has_cpp)]
+            const CPP: Option<Function<$item, $mark>> = Some(function!($cpp($item) -> $mark));
+            #[cfg(not(has_cpp))]
+            const CPP: Option<Function<$item, $mark>> = None;
         })*
     };
 }
 
 foreign! {
-    i64: [i64; items, more] -> i64, bench_numbers, rivals_of_numbers;
-    Entry: [Entry; items, more] -> Entry, bench_entries, rivals_of_entries;
-    Record: [Record; items, more] -> [u64; 8], bench_records, rivals_of_records;
-    String: [Text; texts, more_texts] -> u64, bench_strings;
+    i64 => i64: bench_numbers, rivals_of_numbers;
+    Record => [u64; 8]: bench_records, rivals_of_records;
 }
 
-/// Makes the call on what is handed in, and returns how many marks it wrote. None if it is refused.
-pub fn run<G, M>(
-    function: Function<G, M>,
+/// Makes the call on a task, and returns how many marks it wrote. None if it is refused.
+pub fn run<T, M>(
+    function: Function<T, M>,
     call: Call,
     heap: usize,
-    (items, more): (&[G], &[G]),
-    piece: usize,
+    task: &Task<T>,
     out: &mut [M],
 ) -> Option<u64> {
     // SAFETY: the function reads the items and writes below the length of `out`, and keeps neither. Those of
@@ -103,11 +83,11 @@ pub fn run<G, M>(
         function(
             call,
             heap,
-            items.as_ptr(),
-            items.len(),
-            more.as_ptr(),
-            more.len(),
-            piece,
+            task.items.as_ptr(),
+            task.items.len(),
+            task.more.as_ptr(),
+            task.more.len(),
+            task.piece,
             out.as_mut_ptr(),
             out.len(),
         )
@@ -116,8 +96,9 @@ pub fn run<G, M>(
 }
 
 /// The function of C++, if the heap makes the call: one that doesn't refuses it without items too.
-pub fn in_cpp<T: Foreign>(call: Call, heap: usize) -> Option<Function<T::Given, T::Mark>> {
-    T::CPP.filter(|function| run(*function, call, heap, (&[], &[]), 1, &mut []).is_some())
+pub fn in_cpp<T: Foreign>(call: Call, heap: usize) -> Option<Function<T, T::Mark>> {
+    let nothing = Task::new(Vec::new(), Vec::new(), 1);
+    T::CPP.filter(|function| run(*function, call, heap, &nothing, &mut []).is_some())
 }
 
 /// What is left out, and why. None if each heap is there.

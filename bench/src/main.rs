@@ -11,10 +11,9 @@ mod memory;
 mod queue;
 mod random;
 mod rivals;
-mod search;
 mod workload;
 
-use items::{Entry, Item, Record};
+use items::{Item, Record};
 use measure::{header, measure, Figures};
 use rivals::Rivals;
 use std::env;
@@ -65,13 +64,10 @@ fn print(line: Line, rounds: usize) -> Result<(), String> {
 }
 
 fn measured(line: Line, rounds: usize) -> Result<Figures, String> {
-    let (Workload { kind, .. }, _, items) = line;
+    let (Workload { kind, .. }, ..) = line;
     match kind {
         Kind::Numbers => of_items(rivals::of_numbers, line, rounds),
-        Kind::Entries => of_items(rivals::of_items::<Entry>, line, rounds),
         Kind::Records => of_items(rivals::of_items::<Record>, line, rounds),
-        Kind::Strings => of_items(rivals::of_items::<String>, line, rounds),
-        Kind::Graphs => measure(&rivals::of_graphs(), &inputs::graphs(items), rounds),
     }
 }
 

@@ -8,7 +8,7 @@ use std::time::{Duration, Instant};
 const AT_LEAST: Duration = Duration::from_millis(300);
 /// After how long a line has no further round, if it has had `FEWEST`.
 const ENOUGH: Duration = Duration::from_secs(6);
-const FEWEST: usize = 3;
+const FEWEST: usize = 2;
 
 /// Less than this part of the time of a set-up can't be told from it.
 const TOLD: u32 = 20;

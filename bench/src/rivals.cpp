@@ -22,19 +22,9 @@ namespace {
 constexpr std::uint64_t REFUSED = UINT64_MAX;
 
 // The calls as in workload.rs.
-enum Call : std::size_t { COPY, BUILD, PUSH, RESERVED, EXTEND, APPEND, HOLD, RETAIN, POP, SORTED, CHURN, TURNS, GREATEST };
+enum Call : std::size_t { COPY, BUILD, PUSH, EXTEND, HOLD, RETAIN, POP, CHURN, TURNS, GREATEST };
 
-// The same order as of the structs in items.rs.
-
-struct Entry {
-    std::int64_t priority;
-    std::uint64_t name;
-
-    bool operator<(const Entry &other) const {
-        return priority < other.priority || (priority == other.priority && name < other.name);
-    }
-};
-
+// The same order as of the struct in items.rs.
 struct Record {
     std::int64_t key;
     std::uint64_t words[7];
@@ -50,8 +40,6 @@ template <typename T> struct Queue : std::priority_queue<T> {
     // It builds, also if the items are heap ordered.
     Queue(const T *items, std::size_t len)
         : std::priority_queue<T>(std::less<T>(), std::vector<T>(items, items + len)) {}
-
-    void reserve(std::size_t len) { this->c.reserve(len); }
 
     std::uint64_t write(T *out) const {
         std::copy(this->c.begin(), this->c.end(), out);
@@ -102,9 +90,8 @@ template <typename T> std::uint64_t copy(const Given<T> &given) {
     return copied.size();
 }
 
-template <typename T, typename Heap> std::uint64_t push(const Given<T> &given, std::size_t room) {
+template <typename T, typename Heap> std::uint64_t push(const Given<T> &given) {
     Heap heap;
-    heap.reserve(room);
     for (std::size_t at = 0; at < given.len; at++)
         heap.push(given.items[at]);
     return heap.write(given.out);
@@ -165,9 +152,7 @@ template <typename T, typename Heap> std::uint64_t work(Call call, const Given<T
     case BUILD:
         return Heap::BUILDS ? Heap(given.items, given.len).write(given.out) : REFUSED;
     case PUSH:
-        return push<T, Heap>(given, 0);
-    case RESERVED:
-        return push<T, Heap>(given, given.len);
+        return push<T, Heap>(given);
     case HOLD:
         return Heap(given.items, given.len).write(given.out);
     case POP:
@@ -217,5 +202,4 @@ template <typename T> std::uint64_t over(std::size_t heap, Call call, const Give
     }
 
 RIVAL(rivals_of_numbers, std::int64_t)
-RIVAL(rivals_of_entries, Entry)
 RIVAL(rivals_of_records, Record)

@@ -3,9 +3,7 @@
 use crate::counting::{self, Counted};
 use crate::foreign::{self, function, in_cpp, run, Foreign, Function};
 use crate::items::Item;
-use crate::search::{searches, Pair, ARITY};
 use crate::workload::{of_crate, work, Call, Task, Work};
-use dary_heap::TernaryHeap;
 use std::collections::BinaryHeap;
 
 pub const HERE: &str = "here";
@@ -78,16 +76,12 @@ pub fn of_items<T: Foreign>(call: Call, arity: usize) -> Vec<Rival<T, T::Mark>> 
 
 /// Whether the call writes the heap's slice.
 fn writes_slice(call: Call) -> bool {
-    use Call::{Churn, Copy, Greatest, Pop, Sorted, Turns};
-    !matches!(call, Copy | Pop | Sorted | Churn | Turns | Greatest)
+    use Call::{Churn, Copy, Greatest, Pop, Turns};
+    !matches!(call, Copy | Pop | Churn | Turns | Greatest)
 }
 
-fn linked<T: Foreign>(
-    function: Function<T::Given, T::Mark>,
-    call: Call,
-    heap: usize,
-) -> Run<T, T::Mark> {
-    Box::new(move |task, out| run(function, call, heap, T::given(task), task.piece, out))
+fn linked<T: Foreign>(function: Function<T, T::Mark>, call: Call, heap: usize) -> Run<T, T::Mark> {
+    Box::new(move |task, out| run(function, call, heap, task, out))
 }
 
 fn in_rust<T: 'static, M: 'static>(work: Work<T, M>, call: Call) -> Run<T, M> {
@@ -100,43 +94,6 @@ fn counted(call: Call, work: Work<Counted, i64>) -> Run<i64, i64> {
     Box::new(move |task, out| {
         let counting = Task::new(counting(&task.items), counting(&task.more), task.piece);
         work(call, &counting, out);
-        Some(counting::made())
-    })
-}
-
-/// Those that search, each with the count of its comparisons.
-pub fn of_graphs() -> Vec<Rival<Pair, u64>> {
-    let here = searching_here(function!(bench_graph(Pair) -> u64));
-    let here_counted = searching_here(function!(bench_graph_counted(Pair) -> u64));
-    let of_crate = in_rust(searches::<false, TernaryHeap<_>>, Call::Search);
-    let crate_counted = counted_search(searches::<true, TernaryHeap<_>>);
-    let of_std = in_rust(searches::<false, BinaryHeap<_>>, Call::Search);
-    let std_counted = counted_search(searches::<true, BinaryHeap<_>>);
-    let rivals = [
-        (HERE, here, here_counted),
-        (CRATE, of_crate, crate_counted),
-        (STD, of_std, std_counted),
-    ];
-    let rivals = rivals.map(|(name, run, count)| Rival {
-        name,
-        run,
-        count: Some(count),
-        is_equal: true,
-        lends: false,
-    });
-    rivals.into()
-}
-
-fn searching_here(function: Function<Pair, u64>) -> Run<Pair, u64> {
-    Box::new(move |graph, out| {
-        let given = (&graph.items[..], &graph.more[..]);
-        run(function, Call::Search, ARITY, given, graph.piece, out)
-    })
-}
-
-fn counted_search(work: Work<Pair, u64>) -> Run<Pair, u64> {
-    Box::new(move |graph, out| {
-        work(Call::Search, graph, out);
         Some(counting::made())
     })
 }

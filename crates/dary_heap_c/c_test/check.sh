@@ -1,8 +1,7 @@
 #!/usr/bin/env bash
 # Builds the static library, installs it into an empty folder, and then compiles and runs what is written in C and C++
-# over it: answers.c, beside.cpp, the programs of ../examples and that of ../README.md. answers.c is run over what the
-# toolchain's other backend builds too. It prints what it found right, a line for each wrong answer, and at last
-# how many of the answers are wrong. Its status is 0 if none is.
+# over it: answers.c, the programs of ../examples and that of ../README.md. It prints what it found right, a line for each
+# wrong answer, and at last how many of the answers are wrong. Its status is 0 if none is.
 #
 # It needs the command `rt`, and passes its words on to `rt lib`. CC and CXX name the compilers, with words behind if you
 # like. If CC isn't set and there is no `cc` nothing is compiled, which the last line says, and the status is 0. If CXX
@@ -39,30 +38,20 @@ done
 room=$(mktemp -d)
 trap 'rm -rf -- "$room"' EXIT
 
-build() {
-    (cd .. && rt lib "$@" > "$room/log" 2>&1) || {
-        tail -n 20 -- "$room/log" >&2
-        fail "rt lib $* failed"
-    }
+(cd .. && rt lib "$@" > "$room/log" 2>&1) || {
+    tail -n 20 -- "$room/log" >&2
+    fail "rt lib $* failed"
 }
-
-# The other backend's library is kept apart: out/ has the one to be installed.
-build --backend rattle "$@"
-cp -- ../out/libdary_heap_c.a "$room/other.a"
-stack=$(grep -o 'stack-bytes=[0-9]*' "$room/log") || fail 'the other backend says nothing of the stack'
-build "$@"
 make -s -C .. install "PREFIX=$room/installed" || fail 'make install failed'
 library=$room/installed/lib/libdary_heap_c.a
 header=$room/installed/include/dary_heap_c.h
 
 # The exported symbols are the functions that the header declares, each in plain words, and nothing from outside is called.
 sed -nE 's/^DARY_HEAP_MUST_USE bool (dheap_\w+)\(.*/\1/p' "$header" | sort > "$room/declared"
-for it in "$library" "$room/other.a"; do
-    nm -g --defined-only "$it" | awk 'NF == 3 { print $3 }' | sort > "$room/exported"
-    diff -- "$room/declared" "$room/exported" || fail "the symbols of ${it##*/} aren't the functions of the header"
-    [[ -z "$(nm -g --undefined-only "$it" | awk 'NF == 2')" ]] || fail "${it##*/} calls a function from outside"
-    [[ -z "$(nm "$it" | awk '$2 ~ /^[BbCcDd]$/')" ]] || fail "${it##*/} has a variable"
-done
+nm -g --defined-only "$library" | awk 'NF == 3 { print $3 }' | sort > "$room/exported"
+diff -- "$room/declared" "$room/exported" || fail "the library's symbols aren't the functions of the header"
+[[ -z "$(nm -g --undefined-only "$library" | awk 'NF == 2')" ]] || fail 'the library calls a function from outside'
+[[ -z "$(nm "$library" | awk '$2 ~ /^[BbCcDd]$/')" ]] || fail 'the library has a variable'
 say "the library exports the $(wc -l < "$room/declared") functions of the header alone, and calls none from outside"
 
 if command -v pkg-config > /dev/null; then
@@ -138,10 +127,6 @@ show_all
 say 'the examples and the program of README.md print what they should'
 
 compile answers answers.c
-"${compiler[@]}" -std=c11 "${strict[@]}" -I "$room/installed/include" -o "$room/other" answers.c "$room/other.a" -lm
-"$room/other" | sed 's/$/, as the other backend builds the library/' || fail 'the other backend builds it wrongly'
-grep -q "other backend says ${stack#*=} bytes" ../README.md || fail "README.md has another figure than ${stack#*=} bytes of stack"
-say "by that backend a call takes at most ${stack#*=} bytes of stack"
 
 # A compiler that can warn of an ignored result must.
 if "${compiler[@]}" -dM -E -x c /dev/null | grep -q __GNUC__; then
@@ -151,20 +136,11 @@ if "${compiler[@]}" -dM -E -x c /dev/null | grep -q __GNUC__; then
     grep -q unused-result "$room/printed" || fail 'an ignored result is refused for another reason'
 fi
 
-if $has_cpp; then
-    compile beside beside.cpp
-    "$room/beside" || fail 'beside.cpp found wrong answers'
-fi
-
 sanitizers=('-fsanitize=address,undefined' -fno-sanitize-recover=all -g)
 if printf 'int main(void) { return 0; }\n' | "${compiler[@]}" "${sanitizers[@]}" -x c -o "$room/plain" - 2> "$room/printed" && "$room/plain"; then
     show_all "${sanitizers[@]}"
     compile answers_checked answers.c "${sanitizers[@]}"
     "$room/answers_checked" short | sed 's/$/, with the sanitizers/' || fail 'a sanitizer found a fault'
-    if $has_cpp; then
-        compile beside_checked beside.cpp "${sanitizers[@]}"
-        "$room/beside_checked" | sed 's/$/, with the sanitizers/' || fail 'a sanitizer found a fault'
-    fi
 else
     say 'the C compiler has no address and undefined-behaviour sanitizers, so they were left out'
 fi

@@ -119,6 +119,11 @@ fn number(random: &mut Random) -> u64 {
     (random.number() >> 4) | 1
 }
 
+/// A number below `end`, which is far below the greatest number.
+fn below(random: &mut Random, end: usize) -> usize {
+    (random.number() % end as u64) as usize
+}
+
 fn numbers(random: &mut Random, count: usize) -> Vec<u64> {
     repeat_with(|| number(random)).take(count).collect()
 }
@@ -126,7 +131,7 @@ fn numbers(random: &mut Random, count: usize) -> Vec<u64> {
 /// So many keys below `keys`, with numbers.
 fn changes(random: &mut Random, keys: usize, count: usize) -> Vec<Change> {
     let mut draw = || {
-        let (key, item) = (random.below(keys), number(random));
+        let (key, item) = (below(random, keys), number(random));
         Change { key, item }
     };
     (0..count).map(|_| draw()).collect()
@@ -174,14 +179,14 @@ fn of_edges(edges: Vec<Change>, degree: usize) -> Task {
 }
 
 fn edge(random: &mut Random, key: usize) -> Change {
-    let item = random.below(COST) as u64 + 1;
+    let item = below(random, COST) as u64 + 1;
     Change { key, item }
 }
 
 /// So many edges leave each node, to random ones.
 fn graph(random: &mut Random, nodes: usize, degree: usize) -> Task {
     let mut draw = || {
-        let node = random.below(nodes);
+        let node = below(random, nodes);
         edge(random, node)
     };
     of_edges((0..nodes * degree).map(|_| draw()).collect(), degree)
