@@ -57,6 +57,10 @@ module _ {X : Type 0} {cmp : X → X → Ordering} where
   }
 
   module _ (total : IsTotalOrder cmp) where
+    -- one item alone is the greatest
+    pub greatest_alone : (x : X) → IsGreatest cmp (x ∷ []) x
+    greatest_alone x = record { occurs = Contains-first x []; none_above = λ y in'. subst (λ (v : X). cmp v x ≢ Greater) (alone x y in') (not_greater-self total x) }
+
     -- an item that the greatest doesn't exceed is the greatest once it came
     pub IsGreatest-overtaken : (x m : X) (items : List X) → IsGreatest cmp items m → cmp m x ≢ Greater → IsGreatest cmp (x ∷ items) x
     IsGreatest-overtaken x m items h over = record {

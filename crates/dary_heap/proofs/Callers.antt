@@ -8,19 +8,21 @@ use Rattle.dary_heap.proofs.{IsPermutation-middle, IsPermutation-append_left, Is
 use Rattle.dary_heap.proofs.{get_or_from_slice_get, slice_get_within, parent, IsHeapOrdered, alone, not_less, read}
 use Rattle.std.proofs.Common.{IfOk, OnOk, is_ok}
 use Rattle.std.specs.Iterator.Adapters.{take_count, take_source, take_steps}
-use Rattle.std.specs.List.{HoldsAt}
-use Rattle.std.specs.Ordering.{is_some_and}
+use Rattle.std.specs.List.{HoldsAt, filter}
+use Rattle.std.specs.Ordering.{flip_args, is_some_and}
 use Rattle.std.specs.declared.alloc.AllocError.{AllocError}
 use Rattle.std.specs.declared.cmp.Reverse.{Reverse}
 use Rattle.std.specs.declared.iter.Take.{Take}
 use Rattle.std.proofs.lemmas.Cmp.{ranked, by_ranked}
 use Rattle.std.proofs.lemmas.Iterator.{IsCollectResult}
-use Rattle.std.proofs.lemmas.List.Elements.{All-map}
-use Rattle.std.proofs.lemmas.List.Sorted.{IsPermutation-map, IsPermutation-append_right, IsPermutation-pop_more}
+use Rattle.std.proofs.lemmas.Fn.{filter_same}
+use Rattle.std.proofs.lemmas.List.Elements.{All-cons, All-head, All-map, All-tail}
+use Rattle.std.proofs.lemmas.List.Sorted.{All-permutation, IsPermutation-map, IsPermutation-append_right, IsPermutation-pop_more}
 use Rattle.std.proofs.lemmas.Iterator.Adapters.{YieldsAtMost}
 use Rattle.std.specs.BinaryHeap.{IsHeap}
 use Rattle.dary_heap.specs.TwoArities.{IsUnrefused, RunsUnrefused}
 use Rattle.dary_heap.specs.Extending.{IsRefusedAfter}
+use Rattle.dary_heap.specs.Filtering.{IsRetained}
 pub use Rattle.dary_heap.proofs.Bags.{IsGreatest-stays, IsGreatest-overtaken, front_cases, Contains-cases, Contains-first, Contains-later, holds_none, has_none, came_first, came_later, came_cases}
 pub use Rattle.dary_heap.proofs.Bags.{upper_bound, upper_bound_left}
 pub use Rattle.dary_heap.proofs.Order.{not_greater-self, not_greater-trans}
@@ -70,6 +72,42 @@ IsSameBag-moved x from to left new went came =
     (IsPermutation-trans _ _ _
     (IsPermutation-sym (left ++ x ∷ to) (x ∷ (left ++ to)) (IsPermutation-middle left x to))
     (IsPermutation-append_right left (x ∷ to) new came))
+
+-- ---- what each item has, by the clause `bag` of a call
+
+module _ {X : Type 0} (P : X → Type 0) where
+  -- after a push of an item that has it
+  pub All-pushed : (x : X) (old new : List X) → P x → All P old → IsSameBag (x ∷ old) new → All P new
+  All-pushed x old new has all bag = All-permutation P (x ∷ old) new bag (All-cons P x old has all)
+
+  -- after a pop, and then the item that came out has it too
+  pub All-popped : (x : X) (old new : List X) → All P old → IsSameBag old (x ∷ new) → P x × All P new
+  All-popped x old new all bag = let had = All-permutation P old (x ∷ new) bag all in (All-head P x new had, All-tail P x new had)
+
+  -- after a `replace`, `push_pop` or `replace_at` with an item that has it
+  pub All-replaced : (x out : X) (old new : List X) → P x → All P old → IsSameBag (x ∷ old) (out ∷ new) → P out × All P new
+  All-replaced x out old new has all bag = All-popped out (x ∷ old) new (All-cons P x old has all) bag
+
+-- if the predicate of a `retain` tells what the test does, the test's filter is left
+pub retained_filter : {X F : Type 0} {calls : F → X → Bool → F → Type 0} {D : ℕ} {f : F} (test : X → Bool) (old new : Contents X) →
+    ((x : X) (answer : Bool) (after : F) → calls f x answer after → (answer ≡ test x) × (after ≡ f)) → IsRetained calls D f old new → IsSameBag (filter test old.items) new.items
+retained_filter {X} {calls = calls} {f = f} test old new tells kept =
+    subst (λ (xs : List X). IsSameBag xs new.items) (filter_same calls test f tells old.items _ (kept.answers, kept.after, kept.all, kept.asked, refl)) kept.bag
+
+-- ---- a greatest item, by the clause `greatest` of a call
+
+module _ {X : Type 0} {cmp : X → X → Ordering} where
+  pub all_at_most : (items : List X) (m : X) → IsGreatest cmp items m → All (λ x. cmp x m ≢ Greater) items
+  all_at_most items m h = All-weaker (Contains items) (λ x. cmp x m ≢ Greater) (λ x in'. h.none_above x in') items (All-contains_itself items)
+
+  -- if the order compares a number first, as `nat_le_from_cmp` and `nat_le_from_first` show
+  module _ (key : X → ℕ) (by_key : (x y : X) → cmp x y ≢ Greater → key x ≤ key y) where
+    pub all_keys_up_to : (items : List X) (m : X) → IsGreatest cmp items m → All (λ x. key x ≤ key m) items
+    all_keys_up_to items m h = All-weaker (Contains items) (λ x. key x ≤ key m) (λ x in'. by_key x m (h.none_above x in')) items (All-contains_itself items)
+
+    -- of a heap by `LeastFirst`
+    pub all_keys_from : (items : List X) (m : X) → IsGreatest (flip_args cmp) items m → All (λ x. key m ≤ key x) items
+    all_keys_from items m h = All-weaker (Contains items) (λ x. key m ≤ key x) (λ x in'. by_key m x (h.none_above x in')) items (All-contains_itself items)
 
 -- ---- a change at a place
 

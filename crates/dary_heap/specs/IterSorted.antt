@@ -15,10 +15,10 @@ pub record InOrder (T : Type 0) : Type 0 where
   pub room : ℕ
   pub comparisons : ℕ
 
--- as many of these items will be given as are asked for, or all, and if any will be, none was given yet. There is room for the candidates then, and for no more than there are items
+-- none of these items was given yet, and as many will be as are asked for, or all. There is room for the candidates, and for no more than there are items
 pub record StartsInOrder {T : Type 0} (D most : ℕ) (items : List T) (it : InOrder T) : Type 0 where
-  pub none_given : 0 < it.left → it.given ≡ 0
-  pub bag : 0 < it.left → IsSameBag items it.rest
+  pub none_given : it.given ≡ 0
+  pub bag : IsSameBag items it.rest
   pub left : it.left ≡ min most (length items)
   pub room : it.room ≡ (if it.left == 0 then 0 else min (length items) (candidates_bound D it.left))
 

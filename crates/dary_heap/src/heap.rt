@@ -2,7 +2,7 @@
 //!
 //! A clause sees a heap as its `Contents`: its items in the order in which they are stored, how many there is room
 //! for, and how many comparisons it made. The slice is always heap ordered, so its first item is a greatest one.
-ghost use Rattle.std.specs.Prelude.{◌≡◌, ◌+◌, ◌-◌, ◌<◌, ◌≤◌, ◌↔◌, [], ◌∷◌, length, slice_get, vec_capacity, Some, IsSome, IfSome, IfNone, OnOk, OnErr, IfErr, IsOk, is_ok, if◌then◌else◌, ◌==◌};
+ghost use Rattle.std.specs.Prelude.{◌≡◌, ◌+◌, ◌-◌, ◌^◌, ◌<◌, ◌≤◌, ◌↔◌, [], ◌∷◌, length, slice_get, vec_capacity, Some, IsSome, IfSome, IfNone, OnOk, OnErr, IfErr, IsOk, is_ok, if◌then◌else◌, ◌==◌};
 ghost use Rattle.std.specs.BinaryHeap.{IsUpperBound};
 ghost use Rattle.std.specs.Option.{option_copied};
 ghost use Rattle.dary_heap.specs.Bag.{IsSameBag, IsGreatest};
@@ -18,6 +18,7 @@ use std::marker::Model;
 
 mod capacity;
 mod convert;
+mod exchange;
 mod filter;
 mod join;
 mod key;
@@ -182,6 +183,7 @@ impl<T, const D: usize, J: Judge<T>> DaryHeap<T, D, J> {
     /// ```
     pub fn len(&self) -> usize
         ensures len { result ≡ length self.now.items }
+        ensures bounded { result < 2 ^ 63 }
         ensures ordered { IsHeapOrdered J.order D self.now.items }
     {
         self.items.len()

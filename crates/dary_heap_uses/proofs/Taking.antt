@@ -151,7 +151,7 @@ module _ (entries : List (ℕ × (ℕ × ℕ))) (names : All HasItsName entries)
       let count : length (map shown xs) ≡ min most (length entries) = length-map xs shown ∙ end.0 ∙ starts.left in
       elim (cases_lt 0 from.left) [
         | inl some ↦ subst (ComeNext most (map named entries)) (map-map named shown xs) (those_next most (map shown xs) end.1 record {
-          bag = IsPermutation-trans entries from.rest (map shown xs ++ end.1) (starts.bag some) given.bag;
+          bag = IsPermutation-trans entries from.rest (map shown xs ++ end.1) starts.bag given.bag;
           descending = given.descending;
           none_greater = given.none_greater;
         } count)

@@ -2,7 +2,6 @@
 ghost use Rattle.std.specs.Ordering.{nat_cmp};
 ghost use Rattle.std.specs.Prelude.{◌≡◌, ◌+◌, ◌<◌, ◌≤◌, ◌↔◌, ◌∷◌, [], ℕ, List, All, length, map, min, set, Some, IsSome, IfSome, IfNone, IfOk, IfErr};
 ghost use Rattle.dary_heap.specs.Bag.{IsGreatest, IsSameBag};
-ghost use Rattle.dary_heap.specs.Bounds.{RisesWithin, pop_bound, sink_bound};
 ghost use Rattle.dary_heap.specs.HeapOrder.{IsHeapOrdered};
 ghost use Rattle.dary_heap.specs.Popping.{IsGivenDescending};
 ghost use Rattle.dary_heap.specs.BagState.{front};
@@ -10,7 +9,6 @@ ghost use Rattle.dary_heap.specs.BagState.{front};
 use dary_heap::sift::{ByOrd, LeastFirst, fix_with};
 use dary_heap::{BinaryHeap, DaryHeap, TernaryHeap};
 use std::alloc::Global;
-use std::mem;
 
 /// Returns a heap of one number, or the number if memory allocation fails.
 pub fn heap_of(alloc: Global, number: u32) -> Result<TernaryHeap<u32>, u32>
@@ -34,38 +32,6 @@ pub fn take_from(heap: &mut TernaryHeap<u32>, bound: u32) -> Option<u32>
         Some(number) if bound <= *number => heap.pop(),
         _ => None,
     }
-}
-
-/// Pushes an item and pops a greatest one, which may be that item. It takes no memory, so it can't fail.
-///
-/// A lesser item takes the place of the greatest through a loan: one way down, where a push and a pop take
-/// a way up and a way down.
-///
-/// # Examples
-///
-/// ```
-/// use dary_heap::DaryHeap;
-/// use dary_heap_uses::calling::push_pop;
-/// let mut heap = DaryHeap::<_, 3>::from(vec![in alloc; 3, 8, 1]?);
-/// assert_eq!(rt; push_pop(&mut heap, 5), 8);
-/// assert_eq!(rt; push_pop(&mut heap, 9), 9);
-/// assert_eq!(rt; heap.as_slice(), [5, 3, 1].as_slice());
-/// ```
-pub fn push_pop<T: Ord + Drop, const D: usize>(heap: &mut DaryHeap<T, D>, item: T) -> T
-    ensures bag { IsSameBag (item ∷ heap.old.items) (result ∷ heap.new.items) }
-    ensures greatest { IsGreatest T.cmp (item ∷ heap.old.items) result }
-    ensures counted { RisesWithin heap.old.comparisons heap.new.comparisons
-        (sink_bound D (length heap.old.items)) }
-    ensures tight { RisesWithin heap.old.comparisons heap.new.comparisons
-        (pop_bound D (length heap.old.items) + 1) }
-    ensures capacity { heap.new.capacity ≡ heap.old.capacity }
-{
-    if let Some(mut greatest) = heap.peek_mut() {
-        if item < *greatest {
-            return mem::replace(&mut *greatest, item);
-        }
-    }
-    item
 }
 
 /// Lowers each number above the bound to the bound.

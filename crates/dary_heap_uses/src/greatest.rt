@@ -1,14 +1,13 @@
 //! The `k` greatest, of a stream and of a heap.
 //!
 //! For a stream a heap of `Reverse` has the least of the items that are kept at its top. A greater item takes
-//! its place by [`push_pop`].
+//! its place by [`push_pop`](DaryHeap::push_pop).
 ghost use Rattle.std.specs.Prelude.{◌≡◌, ◌+◌, ◌*◌, ◌≤◌, ◌⊎◌, [], ◌∷◌, ◌++◌, List, length, min, IfOk, IsOk};
 ghost use Rattle.std.specs.Iterator.{Drains, IsFinite};
 ghost use Rattle.dary_heap.specs.Bounds.{RisesWithin, push_bound, pop_bound};
 ghost use Rattle.dary_heap.specs.Popping.{IsGivenDescending};
 ghost use Rattle.dary_heap_uses.specs.Keeping.{KeepsGreatest, values};
 
-use crate::calling::push_pop;
 use dary_heap::DaryHeap;
 use std::alloc::{AllocError, Global};
 use std::cmp::Reverse;
@@ -40,7 +39,7 @@ pub fn greatest<T: Ord + Drop, I: IntoIterator<Item = T>, const D: usize>(
     ensures kept { IfOk result (λ kept. (it : I.IntoIter) × (items : List T)
         × I.into_iter_gives stream it × Drains I.IntoIter.next_gives it items
         × KeepsGreatest T.cmp k items (values kept.items)
-        × (kept.comparisons ≤ length items * (push_bound D k + pop_bound D k))) }
+        × (kept.comparisons ≤ length items * (push_bound D k + pop_bound D k + 1))) }
     ensures succeeds { k ≡ 0 → IsOk result }
 {
     let mut kept = DaryHeap::new(alloc);
@@ -51,7 +50,7 @@ pub fn greatest<T: Ord + Drop, I: IntoIterator<Item = T>, const D: usize>(
             };
         } else {
             // A least of them all goes.
-            push_pop(&mut kept, Reverse(item));
+            kept.push_pop(Reverse(item));
         }
     }
     Ok(kept)

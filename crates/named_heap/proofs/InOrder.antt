@@ -27,13 +27,13 @@ module _ {K T : Type 0} (names : List K) where
       let long = length-named names entries keyed in
       record {
         none_given = starts.none_given;
-        bag = λ some. IsPermutation-flat_map (λ (e : ℕ × T). entry_of (slice_get names e.0) e.1) entries it.rest (starts.bag some);
+        bag = IsPermutation-flat_map (λ (e : ℕ × T). entry_of (slice_get names e.0) e.1) entries it.rest starts.bag;
         left = rw long starts.left;
         room = rw long starts.room;
       }
 
   pub keyed_start : (D most : ℕ) (entries : List (ℕ × T)) (it : InOrder (ℕ × T)) → AreKeyed names entries → StartsInOrder D most entries it → 0 < it.left → AreKeyed names it.rest
-  keyed_start D most entries it keyed starts some = keyed_part entries it.rest keyed (λ e in'. Contains-permutation it.rest entries e (IsPermutation-sym entries it.rest (starts.bag some)) in')
+  keyed_start D most entries it keyed starts some = keyed_part entries it.rest keyed (λ e in'. Contains-permutation it.rest entries e (IsPermutation-sym entries it.rest starts.bag) in')
 
   module _ (cmp : T → T → Ordering) (D : ℕ) (old new : InOrder (ℕ × T)) where
     pub gives_none : GivesNext lent.shown (idx.by_item cmp) D old None new → GivesNext shown (by_item cmp) D (seen old) None (seen new)

@@ -1,7 +1,7 @@
 -- What becomes of the candidates of an `IterSorted` when one is given and its children come.
 use Rattle.dary_heap.proofs.{◌≡◌, ◌≢◌, ℕ, zero, suc, ◌+◌, ◌-◌, ◌*◌, ◌<◌, ◌≤◌, List, [], ◌∷◌, ◌++◌, All, Some, length, slice_get, get_or, inl, inr}
 use Rattle.dary_heap.proofs.{cases_eq, cases_lt, if◌then◌else◌, refl, sym, ap, ◌∙◌, subst, arith, Bor}
-use Rattle.dary_heap.proofs.{IsPermutation, IsPermutation-sym, IsPermutation-trans, IsPermutation-cons, IsPermutation-middle, append_assoc, slice_get_read}
+use Rattle.dary_heap.proofs.{IsPermutation, IsPermutation-refl, IsPermutation-sym, IsPermutation-trans, IsPermutation-cons, IsPermutation-middle, append_assoc, slice_get_read}
 use Rattle.dary_heap.proofs.{Contains, Contains-permutation, Contains-first, Ordering, Greater, IsGreatest, IsTotalOrder, IsHeapOrdered, arity, min}
 use Rattle.dary_heap.proofs.{not_greater-trans, slice_get_within, length-append, length-map, All-contains, All-weaker, All-contains_itself}
 use Rattle.dary_heap.proofs.{RisesWithin, depth-later, times_depth-later, length_permutation, mul-le-mul, mul-le-mul_left, pop_bound, push_bound}
@@ -12,7 +12,7 @@ use Rattle.std.proofs.lemmas.Grind.{flat_map-append}
 use Rattle.std.proofs.lemmas.List.Sorted.{All-permutation, IsPermutation-map}
 use Rattle.std.specs.List.{range_with_len}
 use Rattle.std.specs.Prelude.{◌==◌}
-use Rattle.dary_heap.specs.iter.Candidates.{AreCandidates, StandAtPlaces, StandsAtPlace, by_shown, not_given, places_of, tree_within, trees}
+use Rattle.dary_heap.specs.iter.Candidates.{AreCandidates, StandAtPlaces, StandsAtPlace, by_shown, not_given, places_of, rest_of, tree_within, trees}
 use Rattle.dary_heap.proofs.Cancelling.{IsPermutation-flat_map}
 use Rattle.dary_heap.proofs.iter.Trees.{all_items, clipped, count_trees, range-append, tree_at, tree_below}
 
@@ -163,6 +163,15 @@ module _ {T : Type 0} (cmp : T → T → Ordering) (D : ℕ) (items : List T) (o
           mul-le-mul (omega (arith, at, to)) (depth-later 4 (n - 1) ((arity D - 1) * (given + 1)) (omega (arith, was.few, one, len, more, at, to))) in
           record { rises = omega (arith, popped.rises, pushed.rises); within = omega (arith, popped.within, pushed.within, pop, push) }
 
+-- if there is room for candidates, the items that weren't given are below them
+pub rest_below : {T : Type 0} (D : ℕ) (items : List T) (candidates : List (Bor T × ℕ)) (room : ℕ) → 0 < room → rest_of D items candidates room ≡ not_given D items candidates
+rest_below D items candidates room some = let apart : room ≢ 0 = omega (arith, some) in grind (arith, apart)
+
+-- and there is if any is left to give
+pub some_room : {T : Type 0} (cmp : T → T → Ordering) (D : ℕ) (items : List T) (candidates : List (Bor T × ℕ)) (left room : ℕ) → AreCandidates cmp D items candidates left room → 0 < left → 0 < room
+some_room cmp D items [] left room h some = absurd (omega (arith, h.enough, some))
+some_room cmp D items (c ∷ cs) left room h some = elim h.fits [ inl all ↦ omega (arith, all, some, h.enough, h.within) | inr fit ↦ omega (arith, fit) ]
+
 -- the candidates of a new iterator: none if nothing is left to give, and else the item at the first place
 pub record Begins {T : Type 0} (items : List T) (candidates : List (Bor T × ℕ)) (left : ℕ) : Type 0 where
   pub none : left ≡ 0 → candidates ≡ []
@@ -231,4 +240,15 @@ module _ {T : Type 0} (cmp : T → T → Ordering) (D : ℕ) (items : List T) (o
             | inr all ↦ inl all
           ];
         }
+  ]
+
+  -- at the start all items are left
+  pub begins_rest : (candidates : List (Bor T × ℕ)) (left room : ℕ) → Begins items candidates left → left ≤ length items
+      → room ≡ (if left == 0 then 0 else min (length items) (candidates_bound D left)) → IsPermutation items (rest_of D items candidates room)
+  begins_rest candidates left room begins inside fits = elim (cases_eq left 0) [
+    | inl none ↦ let no : room ≡ 0 = grind (arith, fits, none) in subst (λ (n : ℕ). IsPermutation items (rest_of D items candidates n)) (sym no) (IsPermutation-refl items)
+    | inr any ↦
+        let some : 0 < left = omega (arith, any) in
+        let there = some_room cmp D items candidates left room (begins_right candidates left room begins inside fits) some in
+        rw (rest_below D items candidates room there) (begins_whole candidates left begins some)
   ]

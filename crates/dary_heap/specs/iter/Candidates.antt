@@ -1,5 +1,5 @@
 -- The candidates of an `IterSorted`: the items of which the next one is a greatest, each with its place.
-use Rattle.std.specs.Prelude.{◌≡◌, ℕ, zero, suc, ◌+◌, ◌-◌, ◌*◌, ◌≤◌, ◌⊎◌, List, [], ◌∷◌, All, length, map, slice_get, Option, Some, None}
+use Rattle.std.specs.Prelude.{◌≡◌, ◌==◌, if◌then◌else◌, ℕ, zero, suc, ◌+◌, ◌-◌, ◌*◌, ◌≤◌, ◌⊎◌, List, [], ◌∷◌, All, length, map, slice_get, Option, Some, None}
 use Rattle.std.specs.List.{flat_map, range_with_len}
 use denote.Ref.{Bor}
 use Rattle.std.specs.declared.cmp.Ordering.{Ordering}
@@ -34,9 +34,13 @@ StandAtPlaces items candidates = All (StandsAtPlace items) candidates
 abbrev pub by_shown : {T : Type 0} → (T → T → Ordering) → Bor T × ℕ → Bor T × ℕ → Ordering
 by_shown cmp a b = cmp a.0.now b.0.now
 
--- the items that weren't given yet: the candidates and those below them
+-- the candidates and the items below them: if any item will be given, those that weren't yet
 abbrev pub not_given : {T : Type 0} → ℕ → List T → List (Bor T × ℕ) → List T
 not_given D items candidates = trees D items (places_of candidates)
+
+-- the items that weren't given: all, if there is no room for a candidate, since then none will be
+abbrev pub rest_of : {T : Type 0} → ℕ → List T → List (Bor T × ℕ) → ℕ → List T
+rest_of D items candidates room = if room == 0 then items else not_given D items candidates
 
 -- what an iterator keeps: as many items are left to give as it says, and there is room for all candidates to come
 pub record AreCandidates {T : Type 0} (cmp : T → T → Ordering) (D : ℕ) (items : List T) (candidates : List (Bor T × ℕ)) (left room : ℕ) : Type 0 where

@@ -12,7 +12,7 @@ ghost use Rattle.dary_heap.specs.Bounds.{RisesWithin, candidates_bound, push_bou
 ghost use Rattle.dary_heap.specs.HeapOrder.{arity as arity_of, IsHeapOrdered};
 ghost use Rattle.dary_heap.specs.IterSorted.{InOrder, StartsInOrder, ComparesByClone, GivesNext, GivesGreatest, lent};
 ghost use Rattle.dary_heap.specs.SizeHints.{HintsNumber};
-ghost use Rattle.dary_heap.specs.iter.Candidates.{AreCandidates, StandAtPlaces, by_shown, not_given, places_of};
+ghost use Rattle.dary_heap.specs.iter.Candidates.{AreCandidates, StandAtPlaces, by_shown, places_of, rest_of};
 
 use crate::heap::{DaryHeap, pop_ordered};
 use crate::sift::{ByOrd, Judge, arity, first_child, push_reserved_with};
@@ -67,8 +67,9 @@ impl<'a, T, const D: usize, J: Judge<T>> Model for IterSorted<'a, T, D, J> {
     ghost Value = { InOrder T };
 
     ghost view = { λ it. record {
-      given = length it.items.now - length (not_given D it.items.now it.candidates.items);
-      rest = not_given D it.items.now it.candidates.items;
+      given = length it.items.now
+          - length (rest_of D it.items.now it.candidates.items (vec_capacity it.candidates));
+      rest = rest_of D it.items.now it.candidates.items (vec_capacity it.candidates);
       left = it.left;
       room = vec_capacity it.candidates;
       comparisons = J.count it.judge.items;

@@ -37,10 +37,10 @@ module _ {X : Type 0} {cmp : X → X → Ordering} (total : IsTotalOrder cmp) (k
             ];
       }
 
--- sinking the first of k items costs no more than a push onto so many and a pop from them may
-sunk_within : {old new : ℕ} (D k : ℕ) → RisesWithin old new (sink_bound D k) → RisesWithin old new (pop_bound D k + 1) → RisesWithin old new (push_bound D k + pop_bound D k)
-sunk_within D zero sunk tight = record { rises = sunk.rises; within = omega (arith, sunk.within) }
-sunk_within D (suc k) sunk tight = record { rises = tight.rises; within = omega (arith, tight.within, depth-parent D (suc k) (omega arith)) }
+-- an exchange with the first of k items costs at most one comparison more than a push onto so many and a pop from them may
+within_both : {old new : ℕ} (D k : ℕ) → RisesWithin old new (sink_bound D k + 1) → RisesWithin old new (pop_bound D k + 2) → RisesWithin old new (push_bound D k + pop_bound D k + 1)
+within_both D zero sunk tight = record { rises = sunk.rises; within = omega (arith, sunk.within) }
+within_both D (suc k) sunk tight = record { rises = tight.rises; within = omega (arith, tight.within, depth-parent D (suc k) (omega arith)) }
 
 -- there was room for one more
 pub loop-item-preserved-in-Ok-1 : goal.loop-item-preserved-in-Ok-1
@@ -63,8 +63,8 @@ loop-item-preserved g c =
     let old = c.loop-item.kept.items in
     let out = c.push_pop.result in
     let full : length old ≡ c.args.k = omega (arith, before.few) in
-    let bag = reversed_went _ (record { 0 = c.in-Some.item } ∷ old) c.push_pop.new.heap.items out refl c.push_pop.ensures.bag in
-    let cost = sunk_within g.row.D c.args.k (rw full at c.push_pop.ensures.counted) (rw full at c.push_pop.ensures.tight) in
+    let bag = reversed_went _ (record { 0 = c.in-Some.item } ∷ old) c.push_pop.new.self.items out refl c.push_pop.ensures.bag in
+    let cost = within_both g.row.D c.args.k (rw full at c.push_pop.ensures.counted) (rw full at c.push_pop.ensures.tight) in
     record {
       greatest = least_out g.met.T.Ord.total c.args.k c.loop-item.yielded c.in-Some.item out.0 (values old) _ before.greatest (omega (arith, length-map old (λ r. r.0))) bag
           (reversed_least (record { 0 = c.in-Some.item } ∷ old) out c.push_pop.ensures.greatest);

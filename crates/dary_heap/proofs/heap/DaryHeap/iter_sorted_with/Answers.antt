@@ -1,8 +1,8 @@
-use Rattle.dary_heap.proofs.{◌≡◌, ◌<◌, ◌∙◌, ap, arith, length, min, if◌then◌else◌, vec_capacity, IsHeapOrdered, IsPermutation, length_permutation}
-use Rattle.dary_heap.specs.iter.Candidates.{not_given}
+use Rattle.dary_heap.proofs.{◌≡◌, ◌∙◌, ap, arith, length, min, if◌then◌else◌, vec_capacity, IsHeapOrdered, IsPermutation, length_permutation}
+use Rattle.dary_heap.specs.iter.Candidates.{rest_of}
 use Rattle.std.specs.Prelude.{◌==◌}
 use Rattle.dary_heap.specs.Bounds.{candidates_bound}
-use Rattle.dary_heap.proofs.iter.Candidates.{Begins, begins_first, begins_none, begins_right, begins_whole}
+use Rattle.dary_heap.proofs.iter.Candidates.{Begins, begins_first, begins_none, begins_rest, begins_right}
 use Rattle.dary_heap.proofs.iter.InOrder.{gives_greatest}
 use Rattle.dary_heap.specs.IterSorted.{lent}
 use Rattle.dary_heap.proofs.heap.DaryHeap.iter_sorted_with.Goals.{then-left-ne0, else-left-ne0}
@@ -32,13 +32,14 @@ invariant_of-result g c =
     begins_right g.J.Judge.order g.row.D c.as_slice-items.result.now (is_ordered g c) c.if-left-ne0.candidates.items c.min-left.result
     (vec_capacity c.if-left-ne0.candidates) (begins g c) (omega (arith, c.min-left.ensures)) (has_room g c)
 
-whole : (g : _) (c : goal.Joined-left-ne0 g) → 0 < c.min-left.result → IsPermutation c.as_slice-items.result.now (not_given g.row.D c.as_slice-items.result.now c.if-left-ne0.candidates.items)
-whole g c some = begins_whole g.J.Judge.order g.row.D c.as_slice-items.result.now (is_ordered g c) c.if-left-ne0.candidates.items c.min-left.result (begins g c) some
+whole : (g : _) (c : goal.Joined-left-ne0 g) → IsPermutation c.as_slice-items.result.now (rest_of g.row.D c.as_slice-items.result.now c.if-left-ne0.candidates.items (vec_capacity c.if-left-ne0.candidates))
+whole g c = begins_rest g.J.Judge.order g.row.D c.as_slice-items.result.now (is_ordered g c) c.if-left-ne0.candidates.items c.min-left.result (vec_capacity c.if-left-ne0.candidates) (begins g c)
+    (omega (arith, c.min-left.ensures)) (has_room g c)
 
 pub returns-clause-starts : goal.returns-clause-starts
 returns-clause-starts g c = record {
-  none_given = λ some. omega (arith, length_permutation _ _ (whole g c some));
-  bag = λ some. rw (← c.as_slice-items.ensures.items) (whole g c some);
+  none_given = omega (arith, length_permutation _ _ (whole g c));
+  bag = rw (← c.as_slice-items.ensures.items) (whole g c);
   left = c.min-left.ensures ∙ ap (λ items. min c.args.most (length items)) c.as_slice-items.ensures.items;
   room = has_room g c ∙ ap (λ items. if c.min-left.result == 0 then 0 else min (length items) (candidates_bound g.row.D c.min-left.result)) c.as_slice-items.ensures.items;
 }

@@ -1,5 +1,5 @@
-use Rattle.dary_heap.proofs.{◌<◌, ◌∙◌, ℕ, Bor, arith, refl, slice_get_within}
-use Rattle.dary_heap.proofs.iter.Candidates.{candidates_stay, given_stands, given_step, has_room, next_counted, one_more, others_stand, rest_greatest}
+use Rattle.dary_heap.proofs.{◌≡◌, ◌<◌, ◌∙◌, ℕ, vec_capacity, Bor, arith, refl, slice_get_within}
+use Rattle.dary_heap.proofs.iter.Candidates.{candidates_stay, given_stands, given_step, has_room, next_counted, one_more, others_stand, rest_below, rest_greatest, some_room}
 use Rattle.dary_heap.proofs.iter.in_order.IterSortedIterator.next.Goals as goal
 
 pub children-first-requires : goal.children-first-requires
@@ -43,7 +43,10 @@ returns-clause-steps g c =
     let pushed = c.push_row.ensures in
     let step = given_step _ g.row.D inside.items.now inside.candidates.items inside.left _ was some item mid.items popped.bag
     c.children-first.result.0 c.children-first.result.1 c.children-first.ensures.first c.children-first.ensures.end new.items pushed.places in
-    rw (← c.self.view_is) record {
+    let room = some_room _ g.row.D inside.items.now inside.candidates.items inside.left _ was some in
+    let same : vec_capacity new ≡ vec_capacity inside.candidates = pushed.capacity ∙ popped.capacity in
+    rw (← c.self.view_is, rest_below g.row.D inside.items.now inside.candidates.items (vec_capacity inside.candidates) room, rest_below g.row.D inside.items.now new.items (vec_capacity new) (rw same room))
+    record {
       variant = (λ _. some, λ _. refl);
       greatest = rest_greatest g.row.D inside.items.now g.met.J.Judge.total was.ordered item inside.candidates.items _ was.stand popped.greatest step;
       bag = step;
