@@ -4,7 +4,8 @@ import re
 from dataclasses import dataclass, field
 
 TOP = pathlib.Path(__file__).resolve().parent.parent
-# `rt ci` tries the edits of the first, of which it reads the lines `file:`, `old:` and `new:` alone. There the others begin with `# `.
+# `rt ci` tries the edits of the first, of which it reads the lines `file:`, `old:` and `new:` alone. There the others begin with
+# `# `, as comments do.
 FOLDERS = ("must-fail", "wrong_bodies")
 NEEDED, OTHERS = ("function", "body", "breaks", "case"), ("callers", "without")
 

@@ -95,21 +95,19 @@ def check_clauses(page):
     read, or if it has none, all up to what is only tested."""
     text, _, section = page.read_text(encoding="utf-8").partition("\n## What is proved\n")
     text = section.partition("\n## ")[0] or text.partition("\n## What is only tested\n")[0]
-    found, paths, lead, last = [], [], set(), []
+    found, paths, lead = [], [], set()
     for line in LINK.sub(r"\1<\2>", text).splitlines():
         if line.startswith("#"):
             paths, lead = [], set()
-        whom, is_row = lead, line.lstrip().startswith("|")
+        whom = lead
         for part, group in PART.findall(line):
             linked = [(page.parent / it).resolve() for it in TARGET.findall(part + group)]
             paths += [it for it in linked if it.suffix == ".rt" and it.is_file()]
             named = said_in(part, paths)
             whom = whom if named is None else named
-            clauses = last if is_row and named is not None else NAMED.findall(group)
-            for words, of, target in clauses:
+            for words, of, target in NAMED.findall(group):
                 has = said_by(of, target, page, paths) if of else whom
                 fault = f"{page.relative_to(TOP)}: no contract has the `%s` of '{(part + group)[-90:]}'"
                 found += [None if it in has else fault.replace("%s", it) for it in re.findall(r"`(\w+)`", words)]
-            last = clauses or last
-        lead = lead if not line or is_row or line.lstrip().startswith("-") else whom
+        lead = lead if not line or line.lstrip().startswith(("|", "-")) else whom
     return found

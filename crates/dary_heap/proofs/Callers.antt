@@ -6,9 +6,9 @@ use Rattle.dary_heap.proofs.{sym, ap, ◌∙◌, subst, inl, inr, length-append,
 use Rattle.dary_heap.proofs.{All-contains, All-contains_itself, All-weaker, Contains-append_cases, length_permutation, IsPermutation-refl, IsPermutation-sym, IsPermutation-trans, IsPermutation-cons}
 use Rattle.dary_heap.proofs.{IsPermutation-middle, IsPermutation-append_left, IsSameBag, IsGreatest, Contents, IsPop, IsDescending, IsGivenDescending, front, zero, suc, get_or, slice_get}
 use Rattle.dary_heap.proofs.{get_or_from_slice_get, slice_get_within, parent, IsHeapOrdered, alone, not_less, read}
-use Rattle.std.proofs.Common.{IfOk, OnOk, is_ok}
+use Rattle.std.proofs.Common.{IfOk, OnErr, OnOk, is_ok}
 use Rattle.std.specs.Iterator.Adapters.{take_count, take_source, take_steps}
-use Rattle.std.specs.List.{HoldsAt, filter}
+use Rattle.std.specs.List.{HoldsAt, filter, items_where_true}
 use Rattle.std.specs.Ordering.{flip_args, is_some_and}
 use Rattle.std.specs.declared.alloc.AllocError.{AllocError}
 use Rattle.std.specs.declared.cmp.Reverse.{Reverse}
@@ -16,7 +16,7 @@ use Rattle.std.specs.declared.iter.Take.{Take}
 use Rattle.std.proofs.lemmas.Cmp.{ranked, by_ranked}
 use Rattle.std.proofs.lemmas.Iterator.{IsCollectResult}
 use Rattle.std.proofs.lemmas.Fn.{filter_same}
-use Rattle.std.proofs.lemmas.List.Elements.{All-cons, All-head, All-map, All-tail}
+use Rattle.std.proofs.lemmas.List.Elements.{All-cons, All-head, All-map, All-nil, All-tail}
 use Rattle.std.proofs.lemmas.List.Sorted.{All-permutation, IsPermutation-map, IsPermutation-append_right, IsPermutation-pop_more}
 use Rattle.std.proofs.lemmas.Iterator.Adapters.{YieldsAtMost}
 use Rattle.std.specs.BinaryHeap.{IsHeap}
@@ -76,17 +76,37 @@ IsSameBag-moved x from to left new went came =
 -- ---- what each item has, by the clause `bag` of a call
 
 module _ {X : Type 0} (P : X → Type 0) where
-  -- after a push of an item that has it
+  -- once an item came that has it
   pub All-pushed : (x : X) (old new : List X) → P x → All P old → IsSameBag (x ∷ old) new → All P new
   All-pushed x old new has all bag = All-permutation P (x ∷ old) new bag (All-cons P x old has all)
 
-  -- after a pop, and then the item that came out has it too
+  -- once an item went, which has it too
   pub All-popped : (x : X) (old new : List X) → All P old → IsSameBag old (x ∷ new) → P x × All P new
   All-popped x old new all bag = let had = All-permutation P old (x ∷ new) bag all in (All-head P x new had, All-tail P x new had)
 
-  -- after a `replace`, `push_pop` or `replace_at` with an item that has it
+  -- once an item that has it came for another, as by `push_pop` and `replace_at`
   pub All-replaced : (x out : X) (old new : List X) → P x → All P old → IsSameBag (x ∷ old) (out ∷ new) → P out × All P new
   All-replaced x out old new has all bag = All-popped out (x ∷ old) new (All-cons P x old has all) bag
+
+  -- after a push or a `replace`, also one that returned the item, by its clause `unchanged`
+  pub All-push : {A E : Type 0} (r : Result A E) (x : X) (old new : Contents X) → P x → All P old.items → OnOk r (IsSameBag (x ∷ old.items) new.items) → OnErr r (new ≡ old) → All P new.items
+  All-push (Ok a) x old new has all bag same = All-pushed x old.items new.items has all bag
+  All-push (Err e) x old new has all bag same = subst (λ (heap : Contents X). All P heap.items) (sym same) all
+
+  pub All-replace : {E : Type 0} (r : Result X E) (x : X) (old new : Contents X) → P x → All P old.items → IfOk r (λ out. IsSameBag (x ∷ old.items) (out ∷ new.items)) → OnErr r (new ≡ old) →
+      All P new.items
+  All-replace (Ok out) x old new has all bag same = (All-replaced x out old.items new.items has all bag).1
+  All-replace (Err e) x old new has all bag same = subst (λ (heap : Contents X). All P heap.items) (sym same) all
+
+  where_true : (answers : List Bool) (xs : List X) → All P xs → All P (items_where_true answers xs)
+  where_true [] xs all = All-nil P
+  where_true (b ∷ answers) [] all = All-nil P
+  where_true (true ∷ answers) (x ∷ xs) all = All-cons P x (items_where_true answers xs) (All-head P x xs all) (where_true answers xs (All-tail P x xs all))
+  where_true (false ∷ answers) (x ∷ xs) all = where_true answers xs (All-tail P x xs all)
+
+  -- after a `retain`
+  pub All-retained : {F : Type 0} {calls : F → X → Bool → F → Type 0} {D : ℕ} {f : F} (old new : Contents X) → All P old.items → IsRetained calls D f old new → All P new.items
+  All-retained old new all kept = All-permutation P (items_where_true kept.answers old.items) new.items kept.bag (where_true kept.answers old.items all)
 
 -- if the predicate of a `retain` tells what the test does, the test's filter is left
 pub retained_filter : {X F : Type 0} {calls : F → X → Bool → F → Type 0} {D : ℕ} {f : F} (test : X → Bool) (old new : Contents X) →

@@ -172,7 +172,7 @@ impl<T, const D: usize, J: Judge<T>> DaryHeap<T, D, J> {
         &self.judge
     }
 
-    /// Returns the number of items. Takes *O*(1), without a comparison.
+    /// Returns the number of items, which is below `2 ^ 63`. Takes *O*(1), without a comparison.
     ///
     /// # Examples
     ///

@@ -5,6 +5,10 @@
 //!
 //! The contracts call a `PeekMut` a *loan*, and its item the one *on loan*. A clause sees a loan by
 //! the words of `specs/PeekMut.antt`, and as `exit.0.now` the heap's contents after its end.
+//!
+//! A function that takes and returns a `PeekMut` has to ensure that its `lender` stays the same. So its caller's proof
+//! knows which heap changes when the loan ends. After `mem::forget` a proof knows nothing of the heap. If items hold
+//! references, a proof is generated today for the end of a loan's scope, not for `PeekMut::pop` or `drop` by name.
 ghost use Rattle.dary_heap.specs.Loan.{IsOnLoan, IsOnLoan-prop, IsExceeded};
 
 use crate::heap::DaryHeap;
@@ -15,7 +19,8 @@ use std::mem;
 mod loaned_items;
 mod methods;
 
-/// The greatest item of a heap, which [`DaryHeap::peek_mut`] returns. It is read and written through `*`.
+/// The greatest item of a heap, which [`DaryHeap::peek_mut`] returns. It is read and written through `*`. To put another
+/// item in its place call [`DaryHeap::replace`] or [`DaryHeap::push_pop`].
 ///
 /// A write may change the item's place in the order. The item counts as written from a call of `deref_mut` until
 /// the next [`refresh`](PeekMut::refresh). When the `PeekMut` is dropped, a written item goes down to its place. If

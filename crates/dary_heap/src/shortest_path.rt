@@ -102,7 +102,7 @@ pub enum PathRefusal {
 /// # Preconditions
 ///
 /// - `start` is a node.
-/// - The `node` of each edge is a node.
+/// - The `node` of each edge is a node. If the edges come from an input, test them first.
 ///
 /// # Errors
 ///
@@ -114,7 +114,8 @@ pub enum PathRefusal {
 /// a walk reaches *critical* if its least cost, with what one of its edges costs, comes to `usize::MAX` or more. If
 /// some critical node's least cost is below that of every walk to the goal, the call fails. It returns this error
 /// only if some critical node's least cost is at most that of every walk to the goal. So an edge that costs too
-/// much doesn't matter if the node that it leaves is dearer to reach than the goal.
+/// much doesn't matter if the node that it leaves is dearer to reach than the goal. With fewer than `2 ^ 32` nodes and
+/// costs below `2 ^ 32` no node is critical, though no clause says so.
 ///
 /// # Examples
 ///

@@ -1,7 +1,7 @@
 #!/usr/bin/env bash
 # Builds the static library, installs it into an empty folder, and then compiles and runs what is written in C and C++
-# over it: answers.c, the programs of ../examples and that of ../README.md. It prints what it found right, a line for each
-# wrong answer, and at last how many of the answers are wrong. Its status is 0 if none is.
+# over it: answers.c, double_keys.c, the programs of ../examples and that of ../README.md. It prints what it found right, a
+# line for each wrong answer, and at last how many of the answers are wrong. Its status is 0 if none is.
 #
 # It needs the command `rt`, and passes its words on to `rt lib`. CC and CXX name the compilers, with words behind if you
 # like. If CC isn't set and there is no `cc` nothing is compiled, which the last line says, and the status is 0. If CXX
@@ -124,7 +124,9 @@ done
 
 awk '/^```c$/ { on = 1; next } /^```$/ { on = 0 } on' ../README.md > "$room/readme.c"
 show_all
-say 'the examples and the program of README.md print what they should'
+sed -nE 's/^ +(memcpy\(&key, .*|if \(key < 0\) .*)/    \1/p' ../README.md > "$room/double_keys.inc"
+shows double_keys.c 'the keys of doubles are in the order of the numbers' -I "$room"
+say 'the examples and what is code in README.md do what they should'
 
 compile answers answers.c
 

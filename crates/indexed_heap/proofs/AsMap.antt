@@ -26,10 +26,10 @@ module _ {T : Type 0} where
       ap (λ (e : ℕ × T). e.1) equal
 
 module _ {T : Type 0} (key : ℕ) where
-  item_of-first : (entry : ℕ × T) (entries : List (ℕ × T)) → entry.0 ≡ key → item_of key (entry ∷ entries) ≡ Some entry.1
+  pub item_of-first : (entry : ℕ × T) (entries : List (ℕ × T)) → entry.0 ≡ key → item_of key (entry ∷ entries) ≡ Some entry.1
   item_of-first entry entries is = ap (λ b. if b then Some entry.1 else item_of key entries) (eq-eqb entry.0 key is)
 
-  item_of-later : (entry : ℕ × T) (entries : List (ℕ × T)) → entry.0 ≢ key → item_of key (entry ∷ entries) ≡ item_of key entries
+  pub item_of-later : (entry : ℕ × T) (entries : List (ℕ × T)) → entry.0 ≢ key → item_of key (entry ∷ entries) ≡ item_of key entries
   item_of-later entry entries apart = ap (λ b. if b then Some entry.1 else item_of key entries) (ne_eqb entry.0 key apart)
 
   -- an absent key has no item

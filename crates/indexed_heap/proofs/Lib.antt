@@ -12,3 +12,5 @@ pub mod Copying
 pub mod InOrder
 pub mod Keys
 pub mod Mapping
+pub mod Filtering
+pub mod Appending

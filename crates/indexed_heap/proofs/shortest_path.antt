@@ -2,3 +2,6 @@
 pub mod Waiting
 pub mod Lowering
 pub mod Counting
+pub mod Ways
+pub mod Tracing
+pub mod Nearer

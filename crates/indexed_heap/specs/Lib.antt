@@ -1,6 +1,7 @@
 pub mod Copying
 pub mod Drain
 pub mod Entries
+pub mod Filtering
 pub mod Iterating
 pub mod Keys
 pub mod Lowering
@@ -8,3 +9,4 @@ pub mod Making
 pub mod Places
 pub mod Renaming
 pub mod Showing
+pub mod Ways

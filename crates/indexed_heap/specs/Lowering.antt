@@ -1,5 +1,5 @@
 -- What a search that lowers makes of the costs found so far and of the nodes that wait. A cost found is the limit if no walk was found. Public clauses speak of the room and of the bound alone.
-use Rattle.std.specs.Prelude.{◌≡◌, ℕ, ◌+◌, ◌*◌, ◌<◌, ◌≤◌, List, Option, length, slice_index_or, map, Contains}
+use Rattle.std.specs.Prelude.{◌≡◌, ◌⊎◌, ℕ, ◌+◌, ◌*◌, ◌<◌, ◌≤◌, List, Option, Some, length, slice_get, slice_index_or, map, Contains}
 use Rattle.dary_heap.specs.Bounds.{pop_bound, push_bound}
 use Rattle.dary_heap.specs.declared.shortest_path.Edge.{Edge}
 use Rattle.dary_heap.specs.declared.shortest_path.State.{State}
@@ -38,3 +38,23 @@ Waits node cost old new = (given : Option ℕ) × Gets node cost old given new
 -- the edges of a node that costs so much were examined: found and waiting before, lower and after then
 abbrev pub Lowers : ℕ → ℕ → List Edge → List ℕ → List (ℕ × ℕ) → List ℕ → List (ℕ × ℕ) → Type 0
 Lowers limit cost edges found waiting lower after = Relaxes limit cost edges found (states waiting) lower (states after)
+
+-- what was found for v stays, and so does what is written beside it
+pub record IsKept (limit v : ℕ) (found before lower after : List ℕ) : Type 0 where
+  pub cost : slice_index_or lower v limit ≡ slice_index_or found v limit
+  pub node : slice_get after v ≡ slice_get before v
+
+-- the cost of v fell to that over one of the edges, which leave the node, and the node is written beside it
+pub record IsNoted (limit node cost : ℕ) (edges : List Edge) (v : ℕ) (found lower after : List ℕ) : Type 0 where
+  pub edge : Edge
+  pub stands : Contains edges edge
+  pub ends : v ≡ edge.node
+  pub falls_to : slice_index_or lower v limit ≡ cost + edge.cost
+  pub falls : cost + edge.cost < slice_index_or found v limit
+  pub noted : slice_get after v ≡ Some node
+
+-- edges of a node that costs so much were examined, and the node was written for each end whose cost fell: found and before were the tables, lower and after are
+pub record Notes (limit node cost : ℕ) (edges : List Edge) (found before lower after : List ℕ) : Type 0 where
+  pub same : length after ≡ length before
+  -- a cost and what is written beside it stay, or the cost fell to that over an edge, and the node is written
+  pub changes : (v : ℕ) → IsKept limit v found before lower after ⊎ IsNoted limit node cost edges v found lower after

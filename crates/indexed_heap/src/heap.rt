@@ -13,6 +13,7 @@ use std::alloc::Global;
 use std::marker::Model;
 
 mod access;
+mod append;
 mod capacity;
 mod change;
 mod convert;
@@ -25,8 +26,8 @@ mod rename;
 /// A key has one item at most. By its key an item is read, changed and removed, wherever it stands. Keys are numbers
 /// of your own, such as those of nodes, of processes, or of places in a vector. The heap keeps a table with a word for
 /// each number up to the greatest key so far, so small keys are best. [`reserve`](IndexedHeap::reserve) may make it
-/// longer, and a shrink shorter. `usize::MAX` can't be a key: [`insert`](IndexedHeap::insert) and
-/// [`raise`](IndexedHeap::raise) fail for it.
+/// longer, and a shrink shorter. `usize::MAX` can't be a key: [`insert`](IndexedHeap::insert),
+/// [`raise`](IndexedHeap::raise) and [`lower`](IndexedHeap::lower) fail for it.
 ///
 /// The entries lie in one vector, read as a tree in which each place has up to `D` children. Arity 4 is a good
 /// choice. Arity 0 acts as arity 1.

@@ -2,8 +2,9 @@
 //!
 //! It serves timers that are cancelled, jobs whose priority changes, and searches that find a cheaper way to a node
 //! that waits already. [`IndexedHeap::pop`] returns a greatest item with its key. [`IndexedHeap::insert`],
-//! [`raise`](IndexedHeap::raise) and [`remove`](IndexedHeap::remove) act on one key, and cost about as much as a push
-//! or a pop. What takes memory takes an allocator or keeps the one that it was made with, and returns a `Result`.
+//! [`raise`](IndexedHeap::raise), [`lower`](IndexedHeap::lower) and [`remove`](IndexedHeap::remove) act on one key, and
+//! cost about as much as a push or a pop. What takes memory takes an allocator or keeps the one that it was made with,
+//! and returns a `Result`.
 //!
 //! ```
 //! use dary_heap::sift::{ByOrd, LeastFirst};
@@ -48,6 +49,8 @@
 //! | [`insert`](IndexedHeap::insert) of a key without an item | the depth of the new place: *O*(log *n*) |
 //! | [`insert`](IndexedHeap::insert) of a key with an item | the depth of its place, and `D` for each level from there down to that of the last place |
 //! | [`raise`](IndexedHeap::raise) | one more than the depth of a new place |
+//! | [`lower`](IndexedHeap::lower), each entry of [`append`](IndexedHeap::append) | one more than `D` times the depth of the last place |
+//! | [`retain`](IndexedHeap::retain) | as `retain` of a `DaryHeap`, and none if it drops nothing |
 //! | [`pop`](IndexedHeap::pop), [`pop_if`](IndexedHeap::pop_if), [`remove`](IndexedHeap::remove) | `D` times the depth of the last place that remains: *O*(log *n*) |
 //! | [`shortest_path_by_lowering_within`](shortest_path::shortest_path_by_lowering_within) | a `pop` for each node, and a `raise` for the start and each edge |
 //! | an item of [`into_iter_sorted`](IndexedHeap::into_iter_sorted) | as `pop` |

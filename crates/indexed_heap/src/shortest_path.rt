@@ -9,12 +9,17 @@ ghost use Rattle.dary_heap.specs.Bounds.{RisesWithin, push_bound};
 ghost use Rattle.dary_heap.specs.Walk.{IsWithin, IsLeastCost, IsUnreached, HasCritical, NoneCriticalBelow};
 ghost use Rattle.dary_heap.specs.declared.shortest_path.PathRefusal.TheVariants.{CostTooLarge};
 ghost use Rattle.dary_heap.specs.shortest_path.Searching.{HasTooLarge};
-ghost use Rattle.indexed_heap.specs.Lowering.{HasSameRoom, IsReady, Lowers, Waits, raises_bound, search_bound};
+ghost use Rattle.indexed_heap.specs.Lowering.{HasSameRoom, IsReady, Lowers, Notes, Waits, raises_bound, search_bound};
+ghost use Rattle.indexed_heap.specs.Ways.{AllLeadBack, FindsNearer, LeadsBack};
 
 use crate::heap::IndexedHeap;
 use dary_heap::shortest_path::{Edge, PathRefusal};
 use dary_heap::sift::{ByOrd, JudgesByOrd, LeastFirst};
 use std::alloc::Global;
+
+mod walks;
+
+pub use walks::{shortest_walk_by_lowering, shortest_walk_by_lowering_within, walk_to};
 
 /// Nodes that wait, each with a cost. The cheapest comes out first.
 pub type CostHeap<const D: usize, J = ByOrd> = IndexedHeap<usize, D, LeastFirst<J>>;
@@ -162,6 +167,39 @@ pub fn shortest_path_by_lowering_within<const D: usize, J: JudgesByOrd<usize>>(
     ensures counted { RisesWithin heap.old.comparisons heap.new.comparisons
         (search_bound D (length adj_list.now.items) (sum_by (λ row. length row.items) adj_list.now.items)) }
 {
+    search::<D, J, false>(adj_list, start, goal, found, &mut [], heap)
+}
+
+/// The search itself. If `NOTES`, it notes in `before`, for each node for which it finds a cost, the node before it.
+fn search<const D: usize, J: JudgesByOrd<usize>, const NOTES: bool>(
+    adj_list: &Vec<Vec<Edge>>,
+    start: usize,
+    goal: usize,
+    found: &mut [usize],
+    before: &mut [usize],
+    heap: &mut CostHeap<D, J>,
+) -> Result<Option<usize>, TooLarge>
+    requires graph { IsWithin (length adj_list.now.items) adj_list.now.items }
+    requires start { start < length adj_list.now.items }
+    requires long { length found.old ≡ length adj_list.now.items }
+    requires noting { IsTrue NOTES → length before.old ≡ length adj_list.now.items }
+    requires room { length adj_list.now.items ≤ heap.old.capacity }
+    requires keyed { length adj_list.now.items ≤ heap.old.keys }
+    ensures least { IfOk result
+        (λ answer. IfSome answer (IsLeastCost adj_list.now.items start goal)) }
+    ensures unreached { IfOk result
+        (λ answer. IfNone answer (IsUnreached adj_list.now.items start goal)) }
+    ensures uncritical { OnOk result (NoneCriticalBelow usize.MAX adj_list.now.items start goal) }
+    ensures too_large { OnErr result (HasCritical usize.MAX adj_list.now.items start goal) }
+    ensures back { IsTrue NOTES → IfOk result (λ answer. IfSome answer
+        (λ cost. LeadsBack adj_list.now.items start goal cost before.new)) }
+    ensures all_back { IsTrue NOTES → OnOk result
+        (AllLeadBack usize.MAX adj_list.now.items start found.new before.new) }
+    ensures nearer { OnOk result (FindsNearer usize.MAX adj_list.now.items start goal found.new) }
+    ensures room { HasSameRoom heap.old heap.new }
+    ensures counted { RisesWithin heap.old.comparisons heap.new.comparisons
+        (search_bound D (length adj_list.now.items) (sum_by (λ row. length row.items) adj_list.now.items)) }
+{
     found.fill(usize::MAX);
     heap.clear();
     wait_at(start, 0, found, heap);
@@ -169,24 +207,29 @@ pub fn shortest_path_by_lowering_within<const D: usize, J: JudgesByOrd<usize>>(
         if node == goal {
             return Ok(Some(cost));
         }
-        relax(&adj_list[node], cost, found, heap)?;
+        relax::<D, J, NOTES>(&adj_list[node], node, cost, found, before, heap)?;
     }
     Ok(None)
 }
 
 /// Examines the edges of a node that is reached at a cost. If a walk over one of them costs less than was found for the
-/// node that it leads to, that node waits with the lower cost from then on.
-fn relax<const D: usize, J: JudgesByOrd<usize>>(
+/// node that it leads to, that node waits with the lower cost from then on, and if `NOTES`, the node is noted for it.
+fn relax<const D: usize, J: JudgesByOrd<usize>, const NOTES: bool>(
     edges: &Vec<Edge>,
+    node: usize,
     cost: usize,
     found: &mut [usize],
+    before: &mut [usize],
     heap: &mut CostHeap<D, J>,
 ) -> Result<(), TooLarge>
     requires within { All (λ edge. edge.node < length found.old) edges.now.items }
     requires ready { IsReady usize.MAX found.old heap.old }
+    requires noting { IsTrue NOTES → length before.old ≡ length found.old }
     ensures ready { IsReady usize.MAX found.new heap.new }
     ensures ok { OnOk result (Lowers usize.MAX cost edges.now.items
         found.old heap.old.entries found.new heap.new.entries) }
+    ensures noted { IsTrue NOTES → OnOk result (Notes usize.MAX node cost edges.now.items
+        found.old before.old found.new before.new) }
     ensures too_large { OnErr result (HasTooLarge usize.MAX cost edges.now.items) }
     ensures room { HasSameRoom heap.old heap.new }
     ensures counted { RisesWithin heap.old.comparisons heap.new.comparisons
@@ -200,9 +243,20 @@ fn relax<const D: usize, J: JudgesByOrd<usize>>(
         let next = cost + edge.cost;
         if next < found[edge.node] {
             wait_at(edge.node, next, found, heap);
+            note::<NOTES>(edge.node, node, before);
         }
     }
     Ok(())
+}
+
+/// Notes the node before another, if `NOTES`.
+fn note<const NOTES: bool>(node: usize, from: usize, before: &mut [usize])
+    requires { IsTrue NOTES → node < length before.old }
+    ensures { IsTrue NOTES → before.new ≡ set before.old node from }
+{
+    if NOTES {
+        before[node] = from;
+    }
 }
 
 /// Lowers the cost that was found for a node, which waits with that cost from then on.

@@ -5,12 +5,15 @@
 //! and none waits for another.
 ghost use Rattle.std.specs.Prelude.{ℕ, max, ◌↔◌, IsTrue, ◌≡◌, ◌+◌, ◌<◌, ◌⊎◌, ◌∷◌, length, slice_get, vec_len, Some, IfSome, IfNone, IfOk, OnOk, OnErr, IfErr, IsOk, is_ok, Contains, slice_index_or, ◌≢◌, ◌≤◌, set};
 ghost use Rattle.std.specs.Bool.{OnTrue, OnFalse};
+ghost use Rattle.std.specs.Ordering.{flip_args};
 ghost use Rattle.std.specs.declared.cmp.Ordering.TheVariants.{Greater};
 ghost use Rattle.dary_heap.specs.Bag.{IsSameBag};
 ghost use Rattle.dary_heap.specs.Bounds.{RisesWithin, fix_bound, pop_bound, push_bound};
+ghost use Rattle.dary_heap.specs.Filtering.{IsRetained};
 ghost use Rattle.dary_heap.specs.HeapOrder.{IsHeapOrdered, depth};
 ghost use Rattle.dary_heap.specs.Path.{IsAbove};
-ghost use Rattle.indexed_heap.specs.Entries.{Gets, InsertsWithin, IsAbsent, IsEntry, IsReached, Loses, Raises};
+ghost use Rattle.indexed_heap.specs.Entries.{AreDistinct, Gets, InsertsWithin, IsAbsent, IsEntry, IsReached, Loses, Raises};
+ghost use Rattle.indexed_heap.specs.Filtering.{CalledAtEntry};
 ghost use Rattle.indexed_heap.specs.Places.{AreRight, AreRightOffPath, MakesRoomFor};
 
 use dary_heap::DaryHeap;
@@ -51,6 +54,18 @@ fn write_path<T, const D: usize>(
         at = parent::<D>(at);
     }
     places[entries[at].0] = at;
+}
+
+/// Writes the place of each entry.
+pub(crate) fn write_places<T>(entries: &[(usize, T)], places: &mut [usize])
+    requires distinct { AreDistinct entries.now }
+    requires inside { (i : ℕ) (entry : ℕ × T) → slice_get entries.now i ≡ Some entry → entry.0 < length places.old }
+    ensures right { AreRight entries.now places.new }
+    ensures len { length places.new ≡ length places.old }
+{
+    for place in 0..entries.len() {
+        places[entries[place].0] = place;
+    }
 }
 
 /// Makes room for `additional` more entries, unless there is that much already.
@@ -115,7 +130,7 @@ fn make_room<T, J: Judge<(usize, T)>, const D: usize>(
 
 /// Returns `true` if there is room for one more entry and for the place of a key.
 #[inline(always)]
-pub(crate) fn has_room<T, J: Judge<T>, const D: usize>(
+fn has_room<T, J: Judge<T>, const D: usize>(
     entries: &DaryHeap<T, D, J>,
     places: &Vec<usize>,
     key: usize,
@@ -127,7 +142,7 @@ pub(crate) fn has_room<T, J: Judge<T>, const D: usize>(
 
 /// Adds an entry for a key that has none, in the room that there is.
 #[inline(always)]
-pub(crate) fn put<T, J: Judge<(usize, T)>, const D: usize>(
+fn push_entry<T, J: Judge<(usize, T)>, const D: usize>(
     entries: &mut DaryHeap<(usize, T), D, J>,
     places: &mut [usize],
     key: usize,
@@ -149,9 +164,9 @@ pub(crate) fn put<T, J: Judge<(usize, T)>, const D: usize>(
     write_path::<T, D>(entries.as_slice(), places, last, stop);
 }
 
-/// Adds an entry for a key that has none. It stands out of line: a call that has room adds it by `put`.
+/// Adds an entry for a key that has none, in room that it makes first. It stands out of line: most calls have room.
 #[inline(never)]
-pub(crate) fn add<T, J: Judge<(usize, T)>, const D: usize>(
+fn push_entry_growing<T, J: Judge<(usize, T)>, const D: usize>(
     entries: &mut DaryHeap<(usize, T), D, J>,
     places: &mut Vec<usize>,
     key: usize,
@@ -173,14 +188,42 @@ pub(crate) fn add<T, J: Judge<(usize, T)>, const D: usize>(
     if make_room::<T, J, D>(entries, places, key).is_err() {
         return Err(item);
     }
-    put::<T, J, D>(entries, places.as_mut_slice(), key, item);
+    push_entry::<T, J, D>(entries, places.as_mut_slice(), key, item);
     Ok(())
+}
+
+/// Adds an entry for a key that has none. Makes room for it only if there is none.
+#[inline(always)]
+pub(crate) fn add_entry<T, J: Judge<(usize, T)>, const D: usize>(
+    entries: &mut DaryHeap<(usize, T), D, J>,
+    places: &mut Vec<usize>,
+    key: usize,
+    item: T,
+) -> Result<(), T>
+    requires right { AreRight entries.old.items places.old.items }
+    requires absent { IsAbsent key entries.old.items }
+    ensures gets { OnOk result (Gets key item entries.old.items None entries.new.items) }
+    ensures ordered { IsHeapOrdered J.order D entries.new.items }
+    ensures counted { OnOk result (RisesWithin entries.old.comparisons entries.new.comparisons
+        (push_bound D (length entries.old.items))) }
+    ensures right { AreRight entries.new.items places.new.items }
+    ensures made { MakesRoomFor key entries.old entries.new (vec_len places.old)
+        (vec_len places.new) (is_ok result) }
+    ensures returned { IfErr result (λ back. back ≡ item) }
+    ensures unchanged { OnErr result (entries.new.items ≡ entries.old.items) }
+    ensures uncounted { OnErr result (entries.new.comparisons ≡ entries.old.comparisons) }
+{
+    if has_room::<(usize, T), J, D>(entries, places, key) {
+        push_entry::<T, J, D>(entries, places.as_mut_slice(), key, item);
+        return Ok(());
+    }
+    push_entry_growing::<T, J, D>(entries, places, key, item)
 }
 
 /// Puts another item into an entry, and returns the one that was there. It stands out of line: a call for a key that has
 /// none is shorter so.
 #[inline(never)]
-pub(crate) fn change<T, J: Judge<(usize, T)>, const D: usize>(
+pub(crate) fn replace_entry<T, J: Judge<(usize, T)>, const D: usize>(
     entries: &mut DaryHeap<(usize, T), D, J>,
     places: &mut [usize],
     at: usize,
@@ -232,7 +275,7 @@ pub(crate) fn take_out<T, J: Judge<(usize, T)>, const D: usize>(
 }
 
 /// Puts a greater item into an entry. Returns `false`, and drops the item, if it isn't greater.
-pub(crate) fn lift<T: Drop, J: Judge<(usize, T)>, const D: usize>(
+pub(crate) fn raise_entry<T: Drop, J: Judge<(usize, T)>, const D: usize>(
     entries: &mut DaryHeap<(usize, T), D, J>,
     places: &mut [usize],
     at: usize,
@@ -245,6 +288,7 @@ pub(crate) fn lift<T: Drop, J: Judge<(usize, T)>, const D: usize>(
         (Raises J.order key item entries.old.items entries.new.items) }
     ensures reached { OnFalse result (IsReached J.order key item entries.old.items
         × (entries.new.items ≡ entries.old.items)) }
+    ensures len { length entries.new.items ≡ length entries.old.items }
     ensures ordered { IsHeapOrdered J.order D entries.new.items }
     ensures counted { RisesWithin entries.old.comparisons entries.new.comparisons
         (depth D at + 1) }
@@ -255,6 +299,34 @@ pub(crate) fn lift<T: Drop, J: Judge<(usize, T)>, const D: usize>(
         return false;
     };
     write_path::<T, D>(entries.as_slice(), places, at, stop);
+    true
+}
+
+/// Puts a lesser item into an entry. Returns `false`, and drops the item, if it isn't less.
+pub(crate) fn lower_entry<T: Drop, J: Judge<(usize, T)>, const D: usize>(
+    entries: &mut DaryHeap<(usize, T), D, J>,
+    places: &mut [usize],
+    at: usize,
+    key: usize,
+    item: T,
+) -> bool
+    requires there { IsEntry entries.old.items at key }
+    requires right { AreRight entries.old.items places.old }
+    ensures lowered { OnTrue result
+        (Raises (flip_args J.order) key item entries.old.items entries.new.items) }
+    ensures reached { OnFalse result (IsReached (flip_args J.order) key item entries.old.items
+        × (entries.new.items ≡ entries.old.items)) }
+    ensures len { length entries.new.items ≡ length entries.old.items }
+    ensures ordered { IsHeapOrdered J.order D entries.new.items }
+    ensures counted { RisesWithin entries.old.comparisons entries.new.comparisons
+        (fix_bound D (length entries.old.items) at + 1) }
+    ensures right { AreRight entries.new.items places.new }
+    ensures capacity { entries.new.capacity ≡ entries.old.capacity }
+{
+    let Ok((_, stop)) = entries.lower_at_returning_place(at, (key, item)) else {
+        return false;
+    };
+    write_path::<T, D>(entries.as_slice(), places, at.max(stop), at.min(stop));
     true
 }
 
@@ -281,4 +353,28 @@ pub(crate) fn rekey<T, J: Judge<(usize, T)>, const D: usize>(
 {
     entries.replace_key_at(at, to);
     places[to] = at;
+}
+
+/// Keeps the entries for which `f` returns `true`, and writes the places of all that are left.
+pub(crate) fn retain_entries<
+    T: Drop,
+    J: Judge<(usize, T)>,
+    F: FnMut(usize, &T) -> bool,
+    const D: usize,
+>(entries: &mut DaryHeap<(usize, T), D, J>, places: &mut [usize], mut f: F)
+    requires callable { F.IsAlwaysCallable f }
+    requires right { AreRight entries.old.items places.old }
+    ensures retained { IsRetained (CalledAtEntry F.FnMut) D f entries.old entries.new }
+    ensures len { length entries.new.items ≤ length entries.old.items }
+    ensures ordered { IsHeapOrdered J.order D entries.new.items }
+    ensures right { AreRight entries.new.items places.new }
+    ensures capacity { entries.new.capacity ≡ entries.old.capacity }
+{
+    entries.retain(
+        |entry: &(usize, T)| -> bool
+            requires { F.IsAlwaysCallable f }
+            ensures { CalledAtEntry F.FnMut f.entry entry.now result f.exit }
+        { f(entry.0, &entry.1) },
+    );
+    write_places(entries.as_slice(), places);
 }

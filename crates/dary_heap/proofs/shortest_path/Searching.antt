@@ -11,11 +11,11 @@ pub record Reaches (g : Graph) (u v c : ℕ) : Type 0 where
   pub leads : IsWalk g u walk v
   pub costs : cost_of walk ≡ c
 
-walk_more : (g : Graph) (u : ℕ) (walk : List Edge) (v : ℕ) (e : Edge) → IsWalk g u walk v → HasEdge g v e → IsWalk g u (walk ++ e ∷ []) e.node
+pub walk_more : (g : Graph) (u : ℕ) (walk : List Edge) (v : ℕ) (e : Edge) → IsWalk g u walk v → HasEdge g v e → IsWalk g u (walk ++ e ∷ []) e.node
 walk_more g u [] v e h has = (subst (λ (w : ℕ). HasEdge g w e) (sym h) has, refl)
 walk_more g u (d ∷ walk) v e h has = (h.0, walk_more g d.node walk v e h.1 has)
 
-cost_more : (walk : List Edge) (e : Edge) → cost_of (walk ++ e ∷ []) ≡ cost_of walk + e.cost
+pub cost_more : (walk : List Edge) (e : Edge) → cost_of (walk ++ e ∷ []) ≡ cost_of walk + e.cost
 cost_more [] e = omega arith
 cost_more (d ∷ walk) e = omega (arith, cost_more walk e)
 
@@ -65,7 +65,7 @@ module _ (limit : ℕ) (g : Graph) (start goal : ℕ) where
     pub settled : (u : ℕ) → get_or found u limit < limit → Contains waiting (state (get_or found u limit) u) ⊎ IsExamined found u
 
 -- a list of one number alone
-alike : (n v a : ℕ) → get_or (replicate n a) v a ≡ a
+pub alike : (n v a : ℕ) → get_or (replicate n a) v a ≡ a
 alike n v a = elim (cases_lt v n) [
   | inl lt ↦ get_or-replicate n v a a lt
   | inr le ↦ get_or_past (replicate n a) v a (omega (arith, length-replicate n a))
@@ -109,7 +109,7 @@ module _ {limit : ℕ} {g : Graph} {start goal : ℕ} {found : List ℕ} where
       | inr x ↦ closed walk e.node v (omega (arith, x.sums e leads.0, x.ends e leads.0)) leads.1
     ]
 
-    all_found : (walk : List Edge) (v : ℕ) → IsWalk g start walk v → get_or found v limit < limit
+    pub all_found : (walk : List Edge) (v : ℕ) → IsWalk g start walk v → get_or found v limit < limit
     all_found walk v leads = closed walk start v (omega (arith, S.begun, S.positive)) leads
 
     pub none_reached : IsUnreached g start goal
@@ -128,7 +128,7 @@ module _ {limit : ℕ} {g : Graph} {start goal : ℕ} {found : List ℕ} where
 
   module _ {waiting : List State} (S : IsSearch limit g start goal found waiting) where
     -- where no state that waits costs less than c, a walk costs at least what was found for its end, or c
-    bounded : (c : ℕ) → c ≤ limit → ((x : State) → Contains waiting x → c ≤ x.cost) → (walk : List Edge) (u v b : ℕ) → min (get_or found u limit) c ≤ b → IsWalk g u walk v →
+    pub bounded : (c : ℕ) → c ≤ limit → ((x : State) → Contains waiting x → c ≤ x.cost) → (walk : List Edge) (u v b : ℕ) → min (get_or found u limit) c ≤ b → IsWalk g u walk v →
         min (get_or found v limit) c ≤ b + cost_of walk
     bounded c small low [] u v b h leads = subst (λ (w : ℕ). min (get_or found w limit) c ≤ b + 0) leads (omega arith)
     bounded c small low (e ∷ walk) u v b h leads =
@@ -176,7 +176,7 @@ module _ {limit : ℕ} {g : Graph} {start goal : ℕ} {found : List ℕ} where
 
       -- no state that waits is cheaper
       module _ (low : (x : State) → Contains waiting x → s.cost ≤ x.cost) where
-        bound : (walk : List Edge) (v : ℕ) → IsWalk g start walk v → min (get_or found v limit) s.cost ≤ cost_of walk
+        pub bound : (walk : List Edge) (v : ℕ) → IsWalk g start walk v → min (get_or found v limit) s.cost ≤ cost_of walk
         bound walk v leads = omega (arith, bounded s.cost (omega (arith, taken.below)) low walk start v 0 (omega (arith, S.begun)) leads)
 
         -- a walk to the goal costs no less than the state

@@ -66,6 +66,18 @@ impl<T, const D: usize, J: Judge<T>> DaryHeap<T, D, J> {
     /// }
     /// assert_eq!(rt; heap.as_slice(), [9, 8, 7, 5, 2].as_slice());
     /// ```
+    ///
+    /// A timer that is put off:
+    ///
+    /// ```
+    /// use dary_heap::BinaryHeap;
+    /// use std::cmp::Reverse;
+    /// let mut timers = BinaryHeap::from(vec![in alloc; Reverse((3, 'a')), Reverse((5, 'b'))]?);
+    /// if let Some(place) = timers.as_slice().iter().position(|timer| timer.0.1 == 'a') {
+    ///     assert_eq!(rt; timers.replace_at(place, Reverse((9, 'a'))), Reverse((3, 'a')));
+    /// }
+    /// assert_eq!(rt; timers.peek(), Some(&Reverse((5, 'b'))));
+    /// ```
     pub fn replace_at(&mut self, place: usize, item: T) -> T
         requires { place < length self.old.items }
         ensures item { slice_get self.old.items place ≡ Some result }

@@ -2,6 +2,11 @@
 //!
 //! Each moves one item along the path between two places of the tree. The others on that path move by one level, and
 //! no item elsewhere moves. So the places to be written are those from the lower of the two up to the other one.
+//! `fix_with`, `sift_up_with` and `sift_to_bottom_with` of [`sift`](crate::sift) return the place too.
+//!
+//! `proofs/Path.antt` has laws of the path, and `proofs/Placing.antt` of a table of places: it is right for all items off
+//! the path (`went`, `went_up`, `went_down`), and for each once the places of those on the path are written, from the
+//! lower end on (`noted_next`, `noted_last`).
 ghost use Rattle.std.specs.Prelude.{◌≡◌, ◌≢◌, ◌+◌, ◌-◌, ◌<◌, ◌≤◌, [], ◌∷◌, ◌++◌, length, set, slice_get, Some, IfOk, IfErr, OnErr};
 ghost use Rattle.std.specs.List.{swap_remove};
 ghost use Rattle.std.specs.declared.cmp.Ordering.TheVariants.{Greater};
@@ -186,5 +191,55 @@ impl<T, const D: usize, J: Judge<T>> DaryHeap<T, D, J> {
         let old = mem::replace(&mut self.items[place], item);
         let stop = sift_up_with::<T, J, D>(self.items.as_mut_slice(), place, &mut self.judge);
         Ok((old, stop))
+    }
+
+    /// Puts a strictly lesser item at a place, and returns the one that was there with the place where the new one stops
+    /// on its way down. An item that isn't less is given back.
+    ///
+    /// The call takes at most one comparison more than [`replace_at`](DaryHeap::replace_at). The capacity stays the same.
+    ///
+    /// # Preconditions
+    ///
+    /// - `place` is below the length.
+    ///
+    /// # Errors
+    ///
+    /// Returns the item if it is at least as great as the one at the place. Nothing has changed then but the count.
+    ///
+    /// # Examples
+    ///
+    /// ```
+    /// use dary_heap::BinaryHeap;
+    /// let mut heap = BinaryHeap::from(vec![in alloc; 9, 5, 7, 1, 2]?);
+    /// assert_eq!(rt; heap.lower_at_returning_place(0, 3), Ok((9, 2)));
+    /// assert_eq!(rt; heap.lower_at_returning_place(1, 5), Err(5));
+    /// assert_eq!(rt; heap.as_slice(), [7, 5, 3, 1, 2].as_slice());
+    /// ```
+    #[inline]
+    pub fn lower_at_returning_place(&mut self, place: usize, item: T) -> Result<(T, usize), T>
+        requires { place < length self.old.items }
+        ensures item { IfOk result (λ lowered. slice_get self.old.items place ≡ Some lowered.0) }
+        ensures less { IfOk result (λ lowered. J.order lowered.0 item ≡ Greater) }
+        ensures path { IfOk result (λ lowered. GoesTo D place lowered.1
+            (set self.old.items place item) self.new.items) }
+        ensures within { IfOk result (λ lowered. lowered.1 < length self.new.items) }
+        ensures bag { IfOk result (λ lowered. IsSameBag (item ∷ self.old.items)
+            (lowered.0 ∷ self.new.items)) }
+        ensures len { length self.new.items ≡ length self.old.items }
+        ensures ordered { IsHeapOrdered J.order D self.new.items }
+        ensures counted { RisesWithin self.old.comparisons self.new.comparisons
+            (fix_bound D (length self.old.items) place + 1) }
+        ensures capacity { self.new.capacity ≡ self.old.capacity }
+
+        // It gives back an item that isn't less, and then none has moved.
+        ensures above { OnErr result ((held : T) → slice_get self.old.items place ≡ Some held
+            → J.order held item ≢ Greater) }
+        ensures returned { IfErr result (λ back. back ≡ item) }
+        ensures unchanged { OnErr result (self.new.items ≡ self.old.items) }
+    {
+        if self.judge.at_most(&self.items[place], &item) {
+            return Err(item);
+        }
+        Ok(self.replace_at_returning_place(place, item))
     }
 }

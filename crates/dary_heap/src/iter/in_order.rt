@@ -81,7 +81,8 @@ impl<'a, T, const D: usize, J: Judge<T>> Model for IterSorted<'a, T, D, J> {
 
 impl<T, const D: usize, J: Judge<T>> DaryHeap<T, D, J> {
     /// Returns an iterator over references to the greatest `most` items, or to all if they are fewer, in descending
-    /// order. The heap stays as it is.
+    /// order. The heap stays as it is, and is borrowed until the end of the scope that has the iterator, or until it is
+    /// passed to `drop`.
     ///
     /// Equal items come in any order. The iterator compares by a clone of the heap's judge, so nothing is added to
     /// the heap's count. For the first `k` items it takes *O*(*k* *D* log (*k* *D*)), however long the heap is.

@@ -1,12 +1,13 @@
 //! Calls that give a key an item.
-ghost use Rattle.std.specs.Prelude.{◌≡◌, ℕ, ◌+◌, ◌<◌, ◌≤◌, ◌⊎◌, length, max, IfOk, IfErr, OnErr, OnOk, IsOk};
+ghost use Rattle.std.specs.Prelude.{◌≡◌, ℕ, ◌+◌, ◌<◌, ◌≤◌, ◌⊎◌, length, max, is_some, IfOk, IfErr, OnErr, OnOk, IsOk, if◌then◌else◌};
 ghost use Rattle.std.specs.Bool.{OnTrue, OnFalse};
-ghost use Rattle.dary_heap.specs.Bounds.{RisesWithin, push_bound};
+ghost use Rattle.std.specs.Ordering.{flip_args};
+ghost use Rattle.dary_heap.specs.Bounds.{RisesWithin, push_bound, sink_bound};
 ghost use Rattle.indexed_heap.specs.Entries.{AreSound, Gets, InsertsWithin, IsAbsent, IsEntry, IsReached, Raises, by_item, item_of};
 
 use super::IndexedHeap;
 use crate::judge::ByItem;
-use crate::table::{add, change, has_room, lift, place_of, put};
+use crate::table::{add_entry, lower_entry, place_of, raise_entry, replace_entry};
 use dary_heap::sift::Judge;
 
 impl<T, const D: usize, J: Judge<T>> IndexedHeap<T, D, J> {
@@ -37,6 +38,8 @@ impl<T, const D: usize, J: Judge<T>> IndexedHeap<T, D, J> {
     pub fn insert(&mut self, key: usize, item: T) -> Result<Option<T>, T>
         ensures gets { IfOk result (λ given. Gets key item self.old.entries given self.new.entries) }
         ensures given { IfOk result (λ given. given ≡ item_of key self.old.entries) }
+        ensures len { IfOk result (λ given. length self.new.entries
+            ≡ length self.old.entries + (if is_some given then 0 else 1)) }
         ensures counted { OnOk result (InsertsWithin D key self.old.entries self.old.comparisons
             self.new.comparisons) }
         ensures sound { AreSound J.order D self.new.entries }
@@ -61,22 +64,21 @@ impl<T, const D: usize, J: Judge<T>> IndexedHeap<T, D, J> {
         ensures uncounted { OnErr result (self.new.comparisons ≡ self.old.comparisons) }
     {
         let Some(at) = place_of(self.entries.as_slice(), self.places.as_slice(), key) else {
-            if has_room::<(usize, T), ByItem<J>, D>(&self.entries, &self.places, key) {
-                put::<T, ByItem<J>, D>(&mut self.entries, self.places.as_mut_slice(), key, item);
-                return Ok(None);
-            }
-            add::<T, ByItem<J>, D>(&mut self.entries, &mut self.places, key, item)?;
+            add_entry::<T, ByItem<J>, D>(&mut self.entries, &mut self.places, key, item)?;
             return Ok(None);
         };
         let places = self.places.as_mut_slice();
-        Ok(Some(change::<T, ByItem<J>, D>(&mut self.entries, places, at, key, item)))
+        Ok(Some(replace_entry::<T, ByItem<J>, D>(&mut self.entries, places, at, key, item)))
     }
 
     /// Gives a key an item, unless it has one that is at least as great. Returns `true` if the key has the new item.
     ///
-    /// If items come out least first, this lowers what a key has, as a search for shortest paths does. The call takes
-    /// at most one comparison more than an [`insert`](IndexedHeap::insert) of a key without an item. If it returns
-    /// `false`, the new item is dropped, and nothing changes but the count.
+    /// This is *increase-key*. In a heap whose items come out least first, by `LeastFirst` or in `Reverse`, it is
+    /// *decrease-key*: it lowers what a key has, as a search for shortest paths does. [`lower`](IndexedHeap::lower) goes
+    /// the other way.
+    ///
+    /// The call takes at most one comparison more than an [`insert`](IndexedHeap::insert) of a key without an item. If it
+    /// returns `false`, the new item is dropped, and nothing changes but the count.
     ///
     /// # Errors
     ///
@@ -85,13 +87,13 @@ impl<T, const D: usize, J: Judge<T>> IndexedHeap<T, D, J> {
     /// # Examples
     ///
     /// ```
+    /// use dary_heap::sift::{ByOrd, LeastFirst};
     /// use indexed_heap::IndexedHeap;
-    /// use std::cmp::Reverse;
-    /// let mut costs = IndexedHeap::<_, 4>::new(alloc);
-    /// assert_eq!(rt; costs.raise(8, Reverse(10)), Ok(true));
-    /// assert_eq!(rt; costs.raise(8, Reverse(12)), Ok(false));
-    /// assert_eq!(rt; costs.raise(8, Reverse(4)), Ok(true));
-    /// assert_eq!(rt; costs.pop(), Some((8, Reverse(4))));
+    /// let mut costs = IndexedHeap::<_, 4, _>::with_judge(alloc, LeastFirst(ByOrd::new()));
+    /// assert_eq!(rt; costs.raise(8, 10), Ok(true));
+    /// assert_eq!(rt; costs.raise(8, 12), Ok(false));
+    /// assert_eq!(rt; costs.raise(8, 4), Ok(true));
+    /// assert_eq!(rt; costs.pop(), Some((8, 4)));
     /// ```
     pub fn raise(&mut self, key: usize, item: T) -> Result<bool, T>
     where
@@ -100,6 +102,8 @@ impl<T, const D: usize, J: Judge<T>> IndexedHeap<T, D, J> {
             (Raises (by_item J.order) key item self.old.entries self.new.entries)) }
         ensures reached { IfOk result (λ b. OnFalse b (IsReached (by_item J.order) key item self.old.entries
             × (self.new.entries ≡ self.old.entries))) }
+        ensures len { OnOk result (length self.new.entries ≡ length self.old.entries
+            + (if is_some (item_of key self.old.entries) then 0 else 1)) }
         ensures counted { OnOk result (RisesWithin self.old.comparisons self.new.comparisons
             (push_bound D (length self.old.entries) + 1)) }
         ensures sound { AreSound J.order D self.new.entries }
@@ -123,15 +127,70 @@ impl<T, const D: usize, J: Judge<T>> IndexedHeap<T, D, J> {
         ensures unchanged { OnErr result (self.new.entries ≡ self.old.entries) }
         ensures uncounted { OnErr result (self.new.comparisons ≡ self.old.comparisons) }
     {
-        if let Some(at) = place_of(self.entries.as_slice(), self.places.as_slice(), key) {
-            let places = self.places.as_mut_slice();
-            return Ok(lift::<T, ByItem<J>, D>(&mut self.entries, places, at, key, item));
-        }
-        if has_room::<(usize, T), ByItem<J>, D>(&self.entries, &self.places, key) {
-            put::<T, ByItem<J>, D>(&mut self.entries, self.places.as_mut_slice(), key, item);
+        let Some(at) = place_of(self.entries.as_slice(), self.places.as_slice(), key) else {
+            add_entry::<T, ByItem<J>, D>(&mut self.entries, &mut self.places, key, item)?;
             return Ok(true);
-        }
-        add::<T, ByItem<J>, D>(&mut self.entries, &mut self.places, key, item)?;
-        Ok(true)
+        };
+        let places = self.places.as_mut_slice();
+        Ok(raise_entry::<T, ByItem<J>, D>(&mut self.entries, places, at, key, item))
+    }
+
+    /// Gives a key an item, unless it has one that is at most as great. Returns `true` if the key has the new item.
+    ///
+    /// The call takes at most `D` comparisons for each level of the tree, and one more. If it returns `false`, the new item
+    /// is dropped, and nothing changes but the count.
+    ///
+    /// # Errors
+    ///
+    /// As [`insert`](IndexedHeap::insert).
+    ///
+    /// # Examples
+    ///
+    /// ```
+    /// use indexed_heap::IndexedHeap;
+    /// let mut jobs = IndexedHeap::<_, 4>::new(alloc);
+    /// assert_eq!(rt; jobs.lower(8, 10), Ok(true));
+    /// assert_eq!(rt; jobs.lower(8, 12), Ok(false));
+    /// assert_eq!(rt; jobs.lower(8, 4), Ok(true));
+    /// assert_eq!(rt; jobs.pop(), Some((8, 4)));
+    /// ```
+    pub fn lower(&mut self, key: usize, item: T) -> Result<bool, T>
+    where
+        T: Drop,
+        ensures lowered { IfOk result (λ b. OnTrue b
+            (Raises (flip_args (by_item J.order)) key item self.old.entries self.new.entries)) }
+        ensures reached { IfOk result (λ b. OnFalse b (IsReached (flip_args (by_item J.order)) key item self.old.entries
+            × (self.new.entries ≡ self.old.entries))) }
+        ensures len { OnOk result (length self.new.entries ≡ length self.old.entries
+            + (if is_some (item_of key self.old.entries) then 0 else 1)) }
+        ensures counted { OnOk result (RisesWithin self.old.comparisons self.new.comparisons
+            (sink_bound D (length self.old.entries) + 1)) }
+        ensures sound { AreSound J.order D self.new.entries }
+        ensures capacity { self.old.capacity ≤ self.new.capacity }
+        ensures keys { self.old.keys ≤ self.new.keys }
+        ensures kept { length self.old.entries < self.old.capacity
+            → self.new.capacity ≡ self.old.capacity }
+        ensures keyed { key < self.old.keys → self.new.keys ≡ self.old.keys }
+        ensures widened { OnOk result (self.new.keys ≡ max self.old.keys (key + 1)) }
+        ensures same_keys { OnErr result (self.new.keys ≡ self.old.keys) }
+
+        // It can't fail if there is room, or the key has an item.
+        ensures succeeds { length self.old.entries < self.old.capacity → key < self.old.keys
+            → IsOk result }
+        ensures present { (at : ℕ) → IsEntry self.old.entries at key → IsOk result }
+        ensures roomy { (at : ℕ) → IsEntry self.old.entries at key
+            → self.new.capacity ≡ self.old.capacity }
+        ensures full { OnErr result (IsAbsent key self.old.entries
+            × ((length self.old.entries ≡ self.old.capacity) ⊎ (self.old.keys ≤ key))) }
+        ensures returned { IfErr result (λ back. back ≡ item) }
+        ensures unchanged { OnErr result (self.new.entries ≡ self.old.entries) }
+        ensures uncounted { OnErr result (self.new.comparisons ≡ self.old.comparisons) }
+    {
+        let Some(at) = place_of(self.entries.as_slice(), self.places.as_slice(), key) else {
+            add_entry::<T, ByItem<J>, D>(&mut self.entries, &mut self.places, key, item)?;
+            return Ok(true);
+        };
+        let places = self.places.as_mut_slice();
+        Ok(lower_entry::<T, ByItem<J>, D>(&mut self.entries, places, at, key, item))
     }
 }

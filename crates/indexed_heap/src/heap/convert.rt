@@ -2,13 +2,12 @@
 ghost use Rattle.std.specs.Prelude.{◌≡◌, ℕ, ◌<◌, Contains, IfOk, IsOk, Some, length, slice_get};
 ghost use Rattle.std.specs.Fmt.{debug_list};
 ghost use Rattle.indexed_heap.specs.Copying.{IsCopiedFreely, IsEntryCopy};
-ghost use Rattle.indexed_heap.specs.Entries.{AreDistinct};
 ghost use Rattle.indexed_heap.specs.Making.{IsNew};
-ghost use Rattle.indexed_heap.specs.Places.{AreRight};
 ghost use Rattle.indexed_heap.specs.Showing.{debug_entry};
 
 use super::IndexedHeap;
 use crate::judge::ByItem;
+use crate::table::write_places;
 use dary_heap::DaryHeap;
 use dary_heap::sift::{ByOrd, Judge};
 use std::alloc::{AllocError, Global};
@@ -96,18 +95,6 @@ impl<T: Clone, const D: usize, J: Judge<T> + Clone> Clone for IndexedHeap<T, D, 
         let entries = Clone::clone(&self.entries)?;
         write_places(entries.as_slice(), places.as_mut_slice());
         Ok(IndexedHeap { entries, places })
-    }
-}
-
-/// Writes the place of each entry.
-fn write_places<T>(entries: &[(usize, T)], places: &mut [usize])
-    requires distinct { AreDistinct entries.now }
-    requires inside { (i : ℕ) (entry : ℕ × T) → slice_get entries.now i ≡ Some entry → entry.0 < length places.old }
-    ensures right { AreRight entries.now places.new }
-    ensures len { length places.new ≡ length places.old }
-{
-    for place in 0..entries.len() {
-        places[entries[place].0] = place;
     }
 }
 

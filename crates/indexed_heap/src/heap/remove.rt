@@ -1,12 +1,15 @@
-//! Entries that leave a heap: that of a key, one with a greatest item, or all.
-ghost use Rattle.std.specs.Prelude.{◌≡◌, ℕ, ◌-◌, ◌<◌, ◌↔◌, [], ◌∷◌, length, slice_get, Some, None, Bool, IsSome, IfSome, IfNone, if◌then◌else◌};
+//! Entries that leave a heap: that of a key, one with a greatest item, those that a predicate rejects, or all.
+ghost use Rattle.std.specs.Prelude.{◌≡◌, ℕ, ◌+◌, ◌-◌, ◌<◌, ◌≤◌, ◌↔◌, [], ◌∷◌, length, slice_get, Some, None, Bool, is_some, IsSome, IfSome, IfNone, if◌then◌else◌};
 ghost use Rattle.dary_heap.specs.Bag.{IsSameBag, IsGreatest};
 ghost use Rattle.dary_heap.specs.Bounds.{RisesWithin, pop_bound};
+ghost use Rattle.dary_heap.specs.Filtering.{IsRetained};
 ghost use Rattle.indexed_heap.specs.Entries.{AreSound, IsAbsent, Loses, MayAnswer, MayAsk, by_item, item_of};
+ghost use Rattle.indexed_heap.specs.Filtering.{CalledAtEntry};
+ghost use Rattle.indexed_heap.specs.Iterating.{contents};
 
 use super::IndexedHeap;
 use crate::judge::ByItem;
-use crate::table::{place_of, take_out};
+use crate::table::{place_of, retain_entries, take_out};
 use dary_heap::sift::Judge;
 
 impl<T, const D: usize, J: Judge<T>> IndexedHeap<T, D, J> {
@@ -30,6 +33,8 @@ impl<T, const D: usize, J: Judge<T>> IndexedHeap<T, D, J> {
         ensures loses { Loses key self.old.entries result self.new.entries }
         ensures given { result ≡ item_of key self.old.entries }
         ensures gone { IsAbsent key self.new.entries }
+        ensures len { length self.new.entries + (if is_some result then 1 else 0)
+            ≡ length self.old.entries }
         ensures leaves_room { IfSome result (λ item. (length self.new.entries < self.new.capacity)
             × (key < self.new.keys)) }
         ensures capacity { self.new.capacity ≡ self.old.capacity }
@@ -128,6 +133,8 @@ impl<T, const D: usize, J: Judge<T>> IndexedHeap<T, D, J> {
         ensures bag { IfSome result (λ entry. IsSameBag self.old.entries
             (entry ∷ self.new.entries)) }
         ensures gone { IfSome result (λ entry. IsAbsent entry.0 self.new.entries) }
+        ensures len { length self.new.entries + (if is_some result then 1 else 0)
+            ≡ length self.old.entries }
         ensures capacity { self.new.capacity ≡ self.old.capacity }
         ensures keys { self.new.keys ≡ self.old.keys }
         ensures counted { RisesWithin self.old.comparisons self.new.comparisons
@@ -143,6 +150,43 @@ impl<T, const D: usize, J: Judge<T>> IndexedHeap<T, D, J> {
         } else {
             None
         }
+    }
+
+    /// Keeps the entries for which the predicate returns `true` for the key and the item, and drops the others.
+    ///
+    /// The predicate is called once for each entry, in the order of [`as_slice`](IndexedHeap::as_slice). If it returns
+    /// `true` for all, nothing changes. No room is given back. The call takes as many comparisons as `retain` of a
+    /// `DaryHeap`, so none if it drops nothing, and writes the place of each entry that is left.
+    ///
+    /// # Preconditions
+    ///
+    /// - `f` may be called on anything, and again after each call.
+    ///
+    /// # Examples
+    ///
+    /// ```
+    /// use indexed_heap::IndexedHeap;
+    /// let mut timers = IndexedHeap::<_, 4>::new(alloc);
+    /// for (key, due) in [(3, 50), (8, 10), (5, 30)] {
+    ///     timers.insert(key, due)?;
+    /// }
+    /// timers.retain(|key, due| key != 5 && *due > 20);
+    /// assert_eq!(rt; timers.as_slice(), [(3, 50)].as_slice());
+    /// assert_eq!(rt; timers.get(8), None);
+    /// ```
+    pub fn retain<F: FnMut(usize, &T) -> bool>(&mut self, f: F)
+    where
+        T: Drop,
+        requires { F.IsAlwaysCallable f }
+        ensures retained { IsRetained (CalledAtEntry F.FnMut) D f (contents self.old)
+            (contents self.new) }
+        ensures len { length self.new.entries ≤ length self.old.entries }
+        ensures keys { self.new.keys ≡ self.old.keys }
+        ensures capacity { self.new.capacity ≡ self.old.capacity }
+        ensures sound { AreSound J.order D self.new.entries }
+    {
+        let places = self.places.as_mut_slice();
+        retain_entries::<T, ByItem<J>, F, D>(&mut self.entries, places, f);
     }
 
     /// Drops all entries. No room is given back. Makes no comparison.

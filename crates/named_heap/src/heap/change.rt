@@ -1,5 +1,5 @@
 //! Calls that give a name an item.
-ghost use Rattle.std.specs.Prelude.{◌≡◌, ◌≢◌, ℕ, ◌+◌, ◌<◌, ◌≤◌, true, false, length, slice_get, IsSome, IfSome, IfNone, IfOk, IfErr, OnErr, OnOk, IsOk, Some};
+ghost use Rattle.std.specs.Prelude.{◌≡◌, ◌≢◌, ℕ, ◌+◌, ◌<◌, ◌≤◌, true, false, length, slice_get, is_some, IsSome, IfSome, IfNone, IfOk, IfErr, OnErr, OnOk, IsOk, Some, if◌then◌else◌};
 ghost use Rattle.std.specs.Bool.{OnTrue, OnFalse};
 ghost use Rattle.std.specs.Fn.{FnOnceReturnsAt, FnOnceTakesAt};
 ghost use Rattle.std.specs.Map.{lookup};
@@ -42,6 +42,8 @@ impl<K: Eq + Hash + Drop, T, const D: usize, J: Judge<T>, S: BuildHasher> NamedH
         ensures here { OnOk result (lookup (K.eq name) self.new.entries ≡ Some item) }
         ensures others { OnOk result ((other : K) → K.eq name other ≡ false
             → lookup (K.eq other) self.new.entries ≡ lookup (K.eq other) self.old.entries) }
+        ensures len { IfOk result (λ given. length self.new.entries
+            ≡ length self.old.entries + (if is_some given then 0 else 1)) }
         ensures counted { OnOk result (InsertsWithin K.eq name D self.old.entries self.old.comparisons
             self.new.comparisons) }
         ensures sound { AreSound K.eq J.order D self.new.entries }
@@ -66,9 +68,10 @@ impl<K: Eq + Hash + Drop, T, const D: usize, J: Judge<T>, S: BuildHasher> NamedH
 
     /// Gives a name an item, unless it has one that is at least as great. Returns `true` if the name has the new item.
     ///
-    /// If items come out least first, this lowers what a name has, as a search for shortest paths does. The call takes
-    /// at most one comparison more than an [`insert`](NamedHeap::insert) of a name without an item. If it returns
-    /// `false`, the new item is dropped, and nothing changes but the count.
+    /// This is *increase-key*. In a heap whose items come out least first, by `LeastFirst` or in `Reverse`, it is
+    /// *decrease-key*: it lowers what a name has, as a search for shortest paths does. The call takes at most one comparison
+    /// more than an [`insert`](NamedHeap::insert) of a name without an item. If it returns `false`, the new item is dropped,
+    /// and nothing changes but the count.
     ///
     /// # Errors
     ///
@@ -92,6 +95,8 @@ impl<K: Eq + Hash + Drop, T, const D: usize, J: Judge<T>, S: BuildHasher> NamedH
             (Raises K.eq name J.order item self.old.entries self.new.entries)) }
         ensures reached { IfOk result (λ b. OnFalse b (IsReached K.eq name J.order item self.old.entries
             × (self.new.entries ≡ self.old.entries))) }
+        ensures len { OnOk result (length self.new.entries ≡ length self.old.entries
+            + (if is_some (lookup (K.eq name) self.old.entries) then 0 else 1)) }
         ensures counted { OnOk result (RisesWithin self.old.comparisons self.new.comparisons
             (push_bound D (length self.old.entries) + 1)) }
         ensures sound { AreSound K.eq J.order D self.new.entries }

@@ -1,5 +1,5 @@
 //! Entries that leave a heap: that of a name, or one with a greatest item.
-ghost use Rattle.std.specs.Prelude.{◌≡◌, ◌+◌, ◌<◌, ◌≤◌, ◌↔◌, ◌∷◌, [], Bool, true, false, length, slice_get, Some, None, IsSome, IfSome, IfNone, if◌then◌else◌};
+ghost use Rattle.std.specs.Prelude.{◌≡◌, ◌+◌, ◌<◌, ◌≤◌, ◌↔◌, ◌∷◌, [], Bool, true, false, length, slice_get, Some, None, is_some, IsSome, IfSome, IfNone, if◌then◌else◌};
 ghost use Rattle.std.specs.Map.{lookup};
 ghost use Rattle.std.specs.Option.{option_map};
 ghost use Rattle.dary_heap.specs.Bag.{IsGreatest, IsSameBag};
@@ -38,6 +38,8 @@ impl<K: Eq + Hash, T, const D: usize, J: Judge<T>, S: BuildHasher> NamedHeap<K, 
         ensures named { IfSome result (λ entry. Q.equivalent name entry.0 ≡ true) }
         ensures bag { IfSome result (λ entry. IsSameBag self.old.entries
             (entry ∷ self.new.entries)) }
+        ensures len { length self.new.entries + (if is_some result then 1 else 0)
+            ≡ length self.old.entries }
         ensures counted { RisesWithin self.old.comparisons self.new.comparisons
             (pop_bound D (length self.old.entries)) }
         ensures sound { AreSound K.eq J.order D self.new.entries }
@@ -77,6 +79,8 @@ impl<K: Eq + Hash, T, const D: usize, J: Judge<T>, S: BuildHasher> NamedHeap<K, 
         ensures bag { IfSome result (λ entry. IsSameBag self.old.entries
             (entry ∷ self.new.entries)) }
         ensures gone { IfSome result (λ entry. lookup (K.eq entry.0) self.new.entries ≡ None) }
+        ensures len { length self.new.entries + (if is_some result then 1 else 0)
+            ≡ length self.old.entries }
         ensures counted { RisesWithin self.old.comparisons self.new.comparisons
             (pop_bound D (length self.old.entries)) }
         ensures sound { AreSound K.eq J.order D self.new.entries }
@@ -123,6 +127,8 @@ impl<K: Eq + Hash, T, const D: usize, J: Judge<T>, S: BuildHasher> NamedHeap<K, 
         ensures bag { IfSome result (λ entry. IsSameBag self.old.entries
             (entry ∷ self.new.entries)) }
         ensures gone { IfSome result (λ entry. lookup (K.eq entry.0) self.new.entries ≡ None) }
+        ensures len { length self.new.entries + (if is_some result then 1 else 0)
+            ≡ length self.old.entries }
         ensures counted { RisesWithin self.old.comparisons self.new.comparisons
             (pop_bound D (length self.old.entries)) }
         ensures sound { AreSound K.eq J.order D self.new.entries }

@@ -1,10 +1,11 @@
-use Rattle.dary_heap.proofs.Common.{◌≡◌, ◌<◌, arith, get_or, get_or_default, length, take_more}
+use Rattle.dary_heap.proofs.Common.{◌≡◌, List, ◌<◌, ◌+◌, ◌≤◌, ◌∙◌, sym, mul-le-mul_right, push_bound, arith, ap, get_or, get_or_default, length, take_more}
 use Rattle.dary_heap.specs.declared.shortest_path.Edge.{Edge}
 use Rattle.dary_heap.proofs.shortest_path.Relaxing.{relaxes_kept, relaxes_more}
 use Rattle.indexed_heap.specs.Lowering.{states}
 use Rattle.indexed_heap.proofs.shortest_path.Counting.{raises_more}
 use Rattle.indexed_heap.proofs.shortest_path.Lowering.{relaxes_lowered}
 use Rattle.indexed_heap.proofs.shortest_path.Waiting.{same_room}
+use Rattle.indexed_heap.proofs.shortest_path.Tracing.{notes_kept, notes_lower, notes_more}
 use Rattle.indexed_heap.proofs.shortest_path.relax.Goals.{then-next-found, else-next-found}
 use Rattle.indexed_heap.proofs.shortest_path.relax.Goals as goal
 
@@ -19,18 +20,27 @@ loop-edge-preserved g c =
     rw (take_more c.deref-edge-items.result.now c.loop-edge.edge-index none c.loop-edge-test.true) (elim c.if-next-found.branch [
       | then-next-found w ↦
           let done = w.wait_at.ensures in
-          rw (w.found-is, w.heap-is) record {
+          rw (w.found-is, w.before-is, w.heap-is) record {
             ready = done.ready;
             room = same_room before.room done.room;
             lowers = relaxes_more before.lowers (rw done.found
                 (relaxes_lowered edge found (omega arith) inside c.loop-edge.heap w.wait_at.new.heap before.ready (omega (arith, read, w.if-next-found.true)) done.waits
                 (rw done.found at done.ready)));
+            noted = λ on. notes_more (before.noted on) (rw (done.found, w.note.ensures on)
+                (notes_lower edge found c.loop-edge.before inside (c.loop-edge.auto.before ∙ c.requires.noting on ∙ sym c.loop-edge.auto.found) (omega (arith, read, w.if-next-found.true))));
             counted = raises_more g.row.D _ _ before.counted (rw before.lowers.same at done.counted);
           }
-      | else-next-found w ↦ rw (w.found-is, w.heap-is) record {
+      | else-next-found w ↦ rw (w.found-is, w.before-is, w.heap-is) record {
         ready = before.ready;
         room = before.room;
         lowers = relaxes_more before.lowers (relaxes_kept edge found (states c.loop-edge.heap.entries) (omega arith) inside _ (get_or_default found edge.node 0 _ inside) w.if-next-found.false);
+        noted = λ on. notes_more (before.noted on) (notes_kept edge);
         counted = record { rises = before.counted.rises; within = omega (arith, before.counted.within) };
       }
     ])
+
+pub returns-then-edge-cost-clause-counted : goal.returns-then-edge-cost-clause-counted
+returns-then-edge-cost-clause-counted g c =
+    let before = c.loop-edge.invariant.counted in
+    let few : c.loop-edge.edge-index ≤ length c.args.edges.now.items = omega (arith, c.loop-edge-test.true, ap (λ (l : List Edge). length l) c.deref-edge-items.ensures.value) in
+    record { rises = before.rises; within = omega (arith, before.within, mul-le-mul_right (push_bound g.row.D (length c.args.found.now) + 1) few) }

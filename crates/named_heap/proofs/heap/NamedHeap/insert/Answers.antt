@@ -1,7 +1,7 @@
 use Rattle.std.proofs.Common.{◌≡◌, ℕ, List, ap, arith, inl, inr, is_some, length, sym, ◌∙◌}
 use Rattle.indexed_heap.proofs.AsMap.{item_of-absent}
 use Rattle.named_heap.proofs.Callers.{Gets-here, Gets-others}
-use Rattle.named_heap.proofs.Naming.{lookup_missing, sound_of}
+use Rattle.named_heap.proofs.Naming.{length_of, lookup_missing, sound_of}
 use Rattle.named_heap.proofs.Numbering.{gets_named, is_new, length_gets, length_more, lookup_key, named_gets, named_within, taken_back}
 use Rattle.named_heap.specs.Names.{named}
 use Rattle.named_heap.proofs.heap.NamedHeap.insert.Goals as goal
@@ -100,3 +100,9 @@ returns-in-Ok-insert-clause-others g c = λ other apart.
     Gets-others g.met.K.Eq.laws c.args.name c.args.item c.args.self.now.entries c.in-Ok-insert.given (named c.number.new.names.keys c.insert.new.self.entries)
     (returns-in-Ok-insert-clause-gets g c) (returns-in-Ok-insert-clause-sound g c).distinct
     (rw (← c.self.view_is) before.distinct) other apart
+
+pub returns-in-Ok-insert-clause-len : goal.returns-in-Ok-insert-clause-len
+returns-in-Ok-insert-clause-len g c =
+    let before = length_of c.self.inside.names.keys c.self.inside.heap.entries c.self.invariant in
+    let after = length_of c.number.new.names.keys c.insert.new.self.entries (invariant_of-self-in-Ok-insert g c) in
+    rw (← c.self.view_is) (omega (arith, before, after, c.in-Ok-insert.ensures.len))

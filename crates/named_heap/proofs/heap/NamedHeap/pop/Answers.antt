@@ -50,3 +50,10 @@ returns-clause-gone g c =
     taken_gone g.met.K.Eq.laws c.args.self.now.entries (named c.free.new.names.keys c.free.new.heap.entries) (c.free.result, c.in_ok-key.item) (returns-clause-bag g c)
     (rw (← c.self.view_is) before.distinct)
     (g.K.PartialEq.eq c.free.result) (g.met.K.Eq.laws.congr c.free.result) (g.met.K.Eq.laws.refl c.free.result)
+
+pub returns-clause-len : goal.returns-clause-len
+returns-clause-len g c =
+    let before = length_of c.self.inside.names.keys c.self.inside.heap.entries c.self.invariant in
+    let after = length_of c.free.new.names.keys c.free.new.heap.entries c.free.ensures.are_named in
+    let some : 0 < length c.self.inside.heap.entries = c.in_ok-key.ensures.variant.0 refl in
+    rw (← c.self.view_is) (omega (arith, before, after, some, c.pop.ensures.len, c.free.ensures.entries_len))

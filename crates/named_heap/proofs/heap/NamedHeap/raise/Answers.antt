@@ -88,3 +88,10 @@ returns-in-Err-raise-clause-unchanged g c =
     c.in-Err-raise.ensures.full.0 c.last.new.names.keys c.last.result c.last.ensures.last in
     let same : named c.last.new.names.keys c.raise.new.self.entries ≡ named c.self.inside.names.keys c.self.inside.heap.entries = λ i. named (back.0 i) (c.in-Err-raise.ensures.unchanged i) in
     rw (← c.self.view_is) same
+
+pub returns-in-Ok-raise-clause-len : goal.returns-in-Ok-raise-clause-len
+returns-in-Ok-raise-clause-len g c =
+    let before = length_of c.self.inside.names.keys c.self.inside.heap.entries c.self.invariant in
+    let after = length_of c.number.new.names.keys c.raise.new.self.entries (invariant_of-self-in-Ok-raise g c) in
+    let same = lookup_key g.met.K.Eq.laws c.args.name c.in-Ok.key c.self.inside.names.keys c.number.new.names.keys c.in-Ok.ensures.numbers c.self.inside.heap.entries c.self.invariant in
+    rw (← c.self.view_is) (rw same (omega (arith, before, after, c.in-Ok-raise.ensures.len)))

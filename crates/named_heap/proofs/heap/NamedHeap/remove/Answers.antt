@@ -66,3 +66,10 @@ returns-clause-others g c = λ other apart.
     let not_it = sym (g.met.Q.Equivalent.respects_eq c.args.name c.free.result other (returns-clause-named g c)) ∙ apart in
     taken_others g.met.K.Eq.laws c.args.self.now.entries (named c.free.new.names.keys c.free.new.heap.entries) (c.free.result, c.in-Some.item) (returns-clause-bag g c)
     (rw (← c.self.view_is) before.distinct) other not_it
+
+pub returns-clause-len : goal.returns-clause-len
+returns-clause-len g c =
+    let before = length_of c.self.inside.names.keys c.self.inside.heap.entries c.self.invariant in
+    let after = length_of c.free.new.names.keys c.free.new.heap.entries c.free.ensures.are_named in
+    let less = length_permutation c.self.inside.heap.entries ((c.in_ok-key.key, c.in-Some.item) ∷ c.remove.new.self.entries) c.in-Some.ensures.loses.bag in
+    rw (← c.self.view_is) (omega (arith, before, after, less, c.free.ensures.entries_len))

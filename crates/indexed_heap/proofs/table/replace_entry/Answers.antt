@@ -5,7 +5,7 @@ use Rattle.dary_heap.proofs.Placing.{right_but_at, right_keys, stayed, went, wen
 use Rattle.indexed_heap.specs.Places.{key_of}
 use Rattle.indexed_heap.proofs.Changing.{replaced_gets}
 use Rattle.indexed_heap.proofs.Raising.{same_key}
-use Rattle.indexed_heap.proofs.table.change.Goals as goal
+use Rattle.indexed_heap.proofs.table.replace_entry.Goals as goal
 
 pub write_path-requires-clause-above : goal.write_path-requires-clause-above
 write_path-requires-clause-above g c =

@@ -5,7 +5,7 @@ use Rattle.dary_heap.proofs.Path.{GoesTo-carries, GoesUp-le, GoesUpBy-above}
 use Rattle.indexed_heap.specs.Places.{key_of}
 use Rattle.indexed_heap.proofs.Changing.{entry_is}
 use Rattle.indexed_heap.proofs.Raising.{same_key}
-use Rattle.indexed_heap.proofs.table.lift.Goals as goal
+use Rattle.indexed_heap.proofs.table.raise_entry.Goals as goal
 
 pub write_path-requires-clause-above : goal.write_path-requires-clause-above
 write_path-requires-clause-above g c =

@@ -4,7 +4,7 @@ use Rattle.dary_heap.proofs.Placing.{went_up}
 use Rattle.indexed_heap.specs.Places.{key_of}
 use Rattle.indexed_heap.proofs.Changing.{gets_new}
 use Rattle.indexed_heap.proofs.Removing.{added_but_at, added_keys}
-use Rattle.indexed_heap.proofs.table.put.Goals as goal
+use Rattle.indexed_heap.proofs.table.push_entry.Goals as goal
 
 pub write_path-requires-clause-above : goal.write_path-requires-clause-above
 write_path-requires-clause-above g c =

@@ -4,9 +4,11 @@ use Rattle.dary_heap.proofs.shortest_path.Searching.{IsSearch, after_examining, 
 use Rattle.indexed_heap.specs.Lowering.{states}
 use Rattle.indexed_heap.proofs.shortest_path.Counting.{counted_begins, counted_ends, counted_failed, counted_goal, counted_more}
 use Rattle.indexed_heap.proofs.shortest_path.Lowering.{begins_alone, low_of, row_within, state_of, states_same}
+use Rattle.indexed_heap.proofs.shortest_path.Nearer.{nearer_all, nearer_goal}
+use Rattle.indexed_heap.proofs.shortest_path.Tracing.{traced_all, traced_begins, traced_goal, traced_more}
 use Rattle.indexed_heap.proofs.shortest_path.Waiting.{same_room, taken_exact, taken_ready}
-use Rattle.indexed_heap.proofs.shortest_path.shortest_path_by_lowering_within.Goals.{In_default}
-use Rattle.indexed_heap.proofs.shortest_path.shortest_path_by_lowering_within.Goals as goal
+use Rattle.indexed_heap.proofs.shortest_path.search.Goals.{In_default}
+use Rattle.indexed_heap.proofs.shortest_path.search.Goals as goal
 
 pub loop-node-init : goal.loop-node-init
 loop-node-init g c =
@@ -14,6 +16,7 @@ loop-node-init g c =
     let first = c.wait_at.ensures in
     record {
       search = rw first.found (search_begins _ (lit< tt) refl c.requires.start nothing (begins_alone c.clear.ensures.entries first.waits));
+      traced = λ on. rw first.found (traced_begins (states c.wait_at.new.heap.entries) c.requires.start nothing (c.requires.noting on));
       ready = first.ready;
       room = same_room (record { capacity = c.clear.ensures.capacity; keys = c.clear.ensures.keys }) first.room;
       counted = rw first.found (rw c.clear.ensures.uncounted at (counted_begins c.clear.new.self c.wait_at.new.heap c.requires.start nothing c.clear.ensures.entries first.waits first.counted));
@@ -29,6 +32,22 @@ pub returns-then-node-goal-clause-counted : goal.returns-then-node-goal-clause-c
 returns-then-node-goal-clause-counted g c =
     counted_goal c.loop-node.invariant.counted c.pop.new.self c.loop-node.invariant.ready c.in-Some.ensures.bag c.loop-node.invariant.search.long c.in-Some.ensures.counted
 
+pub returns-then-node-goal-clause-back : goal.returns-then-node-goal-clause-back
+returns-then-node-goal-clause-back g c on =
+    let before = c.loop-node.invariant in
+    let pop = c.in-Some.ensures in
+    traced_goal before.search (before.traced on) (states_same _ _ pop.bag) (taken_exact before.ready pop.bag) c.if-node-goal.true
+
+pub returns-then-node-goal-clause-all_back : goal.returns-then-node-goal-clause-all_back
+returns-then-node-goal-clause-all_back g c on = traced_all (c.loop-node.invariant.traced on)
+
+pub returns-clause-all_back : goal.returns-clause-all_back
+returns-clause-all_back g c on = traced_all (c.loop-node.invariant.traced on)
+
+pub returns-then-node-goal-clause-nearer : goal.returns-then-node-goal-clause-nearer
+returns-then-node-goal-clause-nearer g c =
+    nearer_goal c.loop-node.invariant.search (states_same _ _ c.in-Some.ensures.bag) (low_of _ _ (rw g.met.J.JudgesByOrd.by_ord at c.in-Some.ensures.greatest)) c.if-node-goal.true
+
 pub index-requires : goal.index-requires
 index-requires g c =
     let S = c.loop-node.invariant.search in
@@ -42,7 +61,7 @@ relax-requires g c =
       grind arith,
       (
         row_within c.args.adj_list.now.items c.in-Some.node c.index.result.now c.requires.graph S.long row_is,
-        taken_ready c.loop-node.invariant.ready pop.bag pop.sound.distinct (record { capacity = pop.capacity; keys = pop.keys }),
+        (taken_ready c.loop-node.invariant.ready pop.bag pop.sound.distinct (record { capacity = pop.capacity; keys = pop.keys }), λ on. (c.loop-node.invariant.traced on).long),
       ),
     )
 
@@ -60,6 +79,7 @@ loop-node-preserved g c =
     let row_is = row_read S bag c.index.result.now c.index.ensures in
     record {
       search = after_examining S bag c.if-node-goal.false (taken_exact before.ready pop.bag) _ row_is done.ok c.requires.graph;
+      traced = λ on. traced_more S (before.traced on) bag (taken_exact before.ready pop.bag) row_is (low_of _ _ (rw g.met.J.JudgesByOrd.by_ord at pop.greatest)) done.ok (done.noted on);
       ready = done.ready;
       room = same_room before.room (same_room (record { capacity = pop.capacity; keys = pop.keys }) done.room);
       counted = counted_more before.counted c.pop.new.self before.ready pop.bag S.long pop.counted _ row_is (low_of _ _ (rw g.met.J.JudgesByOrd.by_ord at pop.greatest)) done.ok done.counted;
@@ -95,3 +115,6 @@ returns-clause-uncritical g c = none_uncritical (ended g c)
 
 pub returns-clause-counted : goal.returns-clause-counted
 returns-clause-counted g c = rw c.in_default.ensures.unchanged (counted_ends c.loop-node.invariant.counted)
+
+pub returns-clause-nearer : goal.returns-clause-nearer
+returns-clause-nearer g c = nearer_all (ended g c)
