@@ -3,7 +3,7 @@
 //! A clause sees a heap as an `Indexed`: its entries in the order in which they are stored, how many there is room
 //! for, below which number keys have a place, and how many comparisons it made. No key has two entries, and the
 //! items are heap ordered, so the first entry has a greatest item.
-ghost use Rattle.std.specs.Prelude.{◌≡◌, [], length, ◌==◌};
+ghost use Rattle.std.specs.Prelude.{◌≡◌, ◌^◌, ◌<◌, [], length, ◌==◌};
 ghost use Rattle.indexed_heap.specs.Entries.{AreSound};
 
 use crate::judge::ByItem;
@@ -163,6 +163,7 @@ impl<T, const D: usize, J: Judge<T>> IndexedHeap<T, D, J> {
     /// ```
     pub fn len(&self) -> usize
         ensures len { result ≡ length self.now.entries }
+        ensures bounded { result < 2 ^ 63 }
         ensures sound { AreSound J.order D self.now.entries }
     {
         self.entries.len()

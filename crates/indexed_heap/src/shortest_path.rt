@@ -2,7 +2,7 @@
 //!
 //! [`shortest_path_by_lowering`] returns what the search of `dary_heap` does. If it finds a cheaper walk to a node that
 //! waits, it lowers the cost that the node waits with. So a node waits once at most, and all memory is allocated before
-//! the first step.
+//! the first step. [`shortest_walk_by_lowering`] returns the nodes of a cheapest walk too.
 ghost use Rattle.std.specs.List.{sum_by};
 ghost use Rattle.std.specs.Prelude.{set, slice_index_or, ◌≡◌, ◌+◌, ◌↔◌, ◌<◌, ◌≤◌, IsTrue, IfOk, IfErr, OnOk, OnErr, IfSome, IfNone, All, length};
 ghost use Rattle.dary_heap.specs.Bounds.{RisesWithin, push_bound};

@@ -3,7 +3,7 @@
 //! A clause sees a heap as a `Named`: its entries in the order in which they are stored, how many more names there is
 //! room for, and how many comparisons it made. No name has two entries, and the items are heap ordered, so the first
 //! entry has a greatest item.
-ghost use Rattle.std.specs.Prelude.{◌≡◌, [], length, ◌==◌};
+ghost use Rattle.std.specs.Prelude.{◌≡◌, ◌^◌, ◌<◌, [], length, ◌==◌};
 ghost use Rattle.named_heap.specs.Entries.{AreSound, IsNew};
 
 use dary_heap::sift::{ByOrd, Judge};
@@ -188,6 +188,7 @@ impl<K: Eq + Hash, T, const D: usize, J: Judge<T>, S: BuildHasher> NamedHeap<K, 
     /// ```
     pub fn len(&self) -> usize
         ensures len { result ≡ length self.now.entries }
+        ensures bounded { result < 2 ^ 63 }
         ensures sound { AreSound K.eq J.order D self.now.entries }
     {
         self.heap.len()
