@@ -1,4 +1,4 @@
-//! The functions that the README shows without contracts, and others, each of which shows a call.
+//! Single calls, each in a function with a contract.
 ghost use Rattle.std.specs.Ordering.{nat_cmp};
 ghost use Rattle.std.specs.Prelude.{◌≡◌, ◌+◌, ◌<◌, ◌≤◌, ◌↔◌, ◌∷◌, [], ℕ, List, All, length, map, min, set, Some, IsSome, IfSome, IfNone, IfOk, IfErr};
 ghost use Rattle.dary_heap.specs.Bag.{IsGreatest, IsSameBag};
