@@ -108,7 +108,7 @@ pub type SeptenaryHeap<T> = DaryHeap<T, 7>;
 pub type OctonaryHeap<T> = DaryHeap<T, 8>;
 
 impl<T: Ord, const D: usize> DaryHeap<T, D> {
-    /// Returns an empty heap. Takes *O*(1), without a comparison.
+    /// Returns an empty heap. Takes *O*(1).
     ///
     /// It allocates no memory before an item is pushed or room is reserved.
     ///
@@ -154,7 +154,7 @@ impl<T, const D: usize, J: Judge<T>> DaryHeap<T, D, J> {
         }
     }
 
-    /// Returns the judge by which the heap compares, as to read its count. Makes no comparison.
+    /// Returns the judge by which the heap compares, as to read its count.
     ///
     /// # Examples
     ///
@@ -172,7 +172,7 @@ impl<T, const D: usize, J: Judge<T>> DaryHeap<T, D, J> {
         &self.judge
     }
 
-    /// Returns the number of items, which is below `2 ^ 63`. Takes *O*(1), without a comparison.
+    /// Returns the number of items, which is below `2 ^ 63`. Takes *O*(1).
     ///
     /// # Examples
     ///
@@ -189,7 +189,7 @@ impl<T, const D: usize, J: Judge<T>> DaryHeap<T, D, J> {
         self.items.len()
     }
 
-    /// Returns `true` if the heap has no items. Takes *O*(1), without a comparison.
+    /// Returns `true` if the heap has no items. Takes *O*(1).
     ///
     /// # Examples
     ///
@@ -206,7 +206,7 @@ impl<T, const D: usize, J: Judge<T>> DaryHeap<T, D, J> {
     }
 
     /// Returns the number of items that there is room for. It is never less than the length. Takes
-    /// *O*(1), without a comparison.
+    /// *O*(1).
     ///
     /// A push allocates memory only if the length has reached the capacity.
     ///
@@ -224,7 +224,7 @@ impl<T, const D: usize, J: Judge<T>> DaryHeap<T, D, J> {
         self.items.capacity()
     }
 
-    /// Returns the items in the order in which they are stored. Takes *O*(1), without a comparison.
+    /// Returns the items in the order in which they are stored. Takes *O*(1).
     ///
     /// The slice is heap ordered: no item is strictly greater than its parent, which is the item at
     /// `(place - 1) / D`. So the first item is a greatest one.
@@ -243,7 +243,7 @@ impl<T, const D: usize, J: Judge<T>> DaryHeap<T, D, J> {
         self.items.as_slice()
     }
 
-    /// Returns a greatest item, or `None` if the heap is empty. Takes *O*(1), without a comparison.
+    /// Returns a greatest item, or `None` if the heap is empty. Takes *O*(1).
     ///
     /// It is the first item of [`as_slice`](DaryHeap::as_slice), and the one that the next
     /// [`pop`](DaryHeap::pop) returns.

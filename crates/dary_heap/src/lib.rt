@@ -50,8 +50,8 @@
 //! |---|---|---|---|
 //! | *O*(log *n*) | *O*(*D* log *n*) | none | `2 * (n - 1)` |
 //!
-//! `RULES.md` has the bounds of all calls as numbers. Each call's contract but that of
-//! [`into_sorted_vec`](DaryHeap::into_sorted_vec) states its bound, which is proved.
+//! `RULES.md` has the bounds of all calls as numbers, and says which make no comparison. Each call's contract but that
+//! of [`into_sorted_vec`](DaryHeap::into_sorted_vec) states its bound, which is proved.
 //!
 //! # Modules
 //!

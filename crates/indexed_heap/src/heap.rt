@@ -84,7 +84,7 @@ impl<T, const D: usize, J: Judge<T>> Model for IndexedHeap<T, D, J> {
 }
 
 impl<T: Ord, const D: usize> IndexedHeap<T, D> {
-    /// Returns an empty heap. Takes *O*(1), without a comparison.
+    /// Returns an empty heap. Takes *O*(1).
     ///
     /// It allocates no memory before an item is inserted or room is reserved.
     ///
@@ -132,7 +132,7 @@ impl<T, const D: usize, J: Judge<T>> IndexedHeap<T, D, J> {
         }
     }
 
-    /// Returns the judge by which the heap compares, for example to read its count. Makes no comparison.
+    /// Returns the judge by which the heap compares, for example to read its count.
     ///
     /// # Examples
     ///
@@ -150,7 +150,7 @@ impl<T, const D: usize, J: Judge<T>> IndexedHeap<T, D, J> {
         &self.entries.judge().items
     }
 
-    /// Returns the number of entries. Takes *O*(1), without a comparison.
+    /// Returns the number of entries. Takes *O*(1).
     ///
     /// # Examples
     ///
@@ -169,7 +169,7 @@ impl<T, const D: usize, J: Judge<T>> IndexedHeap<T, D, J> {
         self.entries.len()
     }
 
-    /// Returns `true` if there are no entries. Takes *O*(1), without a comparison.
+    /// Returns `true` if there are no entries. Takes *O*(1).
     ///
     /// # Examples
     ///
@@ -187,7 +187,7 @@ impl<T, const D: usize, J: Judge<T>> IndexedHeap<T, D, J> {
         self.entries.is_empty()
     }
 
-    /// Returns the entries in the order in which they are stored. Takes *O*(1), without a comparison.
+    /// Returns the entries in the order in which they are stored. Takes *O*(1).
     ///
     /// No item is strictly greater than that of the parent, which is the entry at `(place - 1) / D`. So the first
     /// item is a greatest one.

@@ -85,7 +85,7 @@ impl<K: Eq + Hash, T, const D: usize, J: Judge<T>, S: BuildHasher> Model
 }
 
 impl<K: Eq + Hash, T: Ord, const D: usize> NamedHeap<K, T, D> {
-    /// Returns an empty heap. Takes *O*(1), without a comparison.
+    /// Returns an empty heap. Takes *O*(1).
     ///
     /// It allocates no memory before an item is inserted or room is reserved.
     ///
@@ -157,7 +157,7 @@ impl<K: Eq + Hash, T, const D: usize, J: Judge<T>, S: BuildHasher> NamedHeap<K, 
         }
     }
 
-    /// Returns the judge by which the heap compares, for example to read its count. Makes no comparison.
+    /// Returns the judge by which the heap compares, for example to read its count.
     ///
     /// # Examples
     ///
@@ -175,7 +175,7 @@ impl<K: Eq + Hash, T, const D: usize, J: Judge<T>, S: BuildHasher> NamedHeap<K, 
         self.heap.judge()
     }
 
-    /// Returns the number of entries. Takes *O*(1), without a comparison.
+    /// Returns the number of entries. Takes *O*(1).
     ///
     /// # Examples
     ///
@@ -194,7 +194,7 @@ impl<K: Eq + Hash, T, const D: usize, J: Judge<T>, S: BuildHasher> NamedHeap<K, 
         self.heap.len()
     }
 
-    /// Returns `true` if there are no entries. Takes *O*(1), without a comparison.
+    /// Returns `true` if there are no entries. Takes *O*(1).
     ///
     /// # Examples
     ///

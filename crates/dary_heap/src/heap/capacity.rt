@@ -7,7 +7,7 @@ use crate::sift::{ByOrd, Judge};
 use std::alloc::{AllocError, Global};
 
 impl<T: Ord, const D: usize> DaryHeap<T, D> {
-    /// Returns an empty heap with room for at least `capacity` items. Makes no comparison.
+    /// Returns an empty heap with room for at least `capacity` items.
     ///
     /// # Errors
     ///
@@ -36,7 +36,7 @@ impl<T: Ord, const D: usize> DaryHeap<T, D> {
 }
 
 impl<T, const D: usize, J: Judge<T>> DaryHeap<T, D, J> {
-    /// Reserves room for at least `additional` more items. Makes no comparison.
+    /// Reserves room for at least `additional` more items.
     ///
     /// After `Ok` that many pushes allocate no memory, and don't fail. If there is room already, it does nothing.
     ///
@@ -63,7 +63,7 @@ impl<T, const D: usize, J: Judge<T>> DaryHeap<T, D, J> {
     }
 
     /// Reserves room for `additional` more items, and for no more than that if it has to allocate.
-    /// Makes no comparison. Prefer [`reserve`](DaryHeap::reserve) if more items may follow.
+    /// Prefer [`reserve`](DaryHeap::reserve) if more items may follow.
     ///
     /// # Errors
     ///
@@ -83,7 +83,7 @@ impl<T, const D: usize, J: Judge<T>> DaryHeap<T, D, J> {
         self.items.reserve_exact(additional)
     }
 
-    /// Does the same as [`reserve`](DaryHeap::reserve). Makes no comparison.
+    /// Does the same as [`reserve`](DaryHeap::reserve).
     ///
     /// # Errors
     ///
@@ -103,7 +103,7 @@ impl<T, const D: usize, J: Judge<T>> DaryHeap<T, D, J> {
         self.reserve(additional)
     }
 
-    /// Does the same as [`reserve_exact`](DaryHeap::reserve_exact). Makes no comparison.
+    /// Does the same as [`reserve_exact`](DaryHeap::reserve_exact).
     ///
     /// # Errors
     ///
@@ -124,7 +124,7 @@ impl<T, const D: usize, J: Judge<T>> DaryHeap<T, D, J> {
     }
 
     /// Shrinks the capacity to `min_capacity`, or to the length if that is greater. If the capacity
-    /// is no greater than that, it does nothing. Makes no comparison.
+    /// is no greater than that, it does nothing.
     ///
     /// # Errors
     ///
@@ -151,7 +151,7 @@ impl<T, const D: usize, J: Judge<T>> DaryHeap<T, D, J> {
         Ok(())
     }
 
-    /// Shrinks the capacity to the length. Makes no comparison.
+    /// Shrinks the capacity to the length.
     ///
     /// # Errors
     ///

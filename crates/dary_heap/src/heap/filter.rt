@@ -89,7 +89,7 @@ impl<T, const D: usize, J: Judge<T>> DaryHeap<T, D, J> {
         mend_with::<T, J, D>(self.items.as_mut_slice(), start, &mut self.judge);
     }
 
-    /// Drops all items. The capacity stays the same. Makes no comparison.
+    /// Drops all items. The capacity stays the same.
     ///
     /// # Examples
     ///

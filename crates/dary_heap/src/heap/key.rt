@@ -7,7 +7,7 @@ use crate::sift::Judge;
 use std::mem;
 
 impl<K, T, const D: usize, J: Judge<(K, T)>> DaryHeap<(K, T), D, J> {
-    /// Puts another key into the pair at a place, and returns the one that was there. Takes *O*(1), without a comparison.
+    /// Puts another key into the pair at a place, and returns the one that was there. Takes *O*(1).
     ///
     /// No pair moves, and the capacity stays the same. It is for pairs `(key, item)` of a judge that compares items alone.
     ///

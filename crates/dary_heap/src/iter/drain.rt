@@ -37,7 +37,7 @@ impl<T, const D: usize, J: Judge<T>> DaryHeap<T, D, J> {
     ghost use Rattle.dary_heap.specs.Drain.{drain_rest, drain_lender, leaves_emptied};
 
     /// Removes all items, and returns an iterator over them, in the order in which they were
-    /// stored. Makes no comparison.
+    /// stored.
     ///
     /// Once the iterator is gone, also if it was dropped early or forgotten, the heap is empty. Its
     /// vector goes to the iterator, so its capacity is 0 then.

@@ -46,7 +46,7 @@ impl<T> IntoIter<T> {
         }
     }
 
-    /// Returns an iterator over clones of what is left. Makes no comparison.
+    /// Returns an iterator over clones of what is left.
     ///
     /// # Preconditions
     ///
@@ -123,7 +123,7 @@ impl<T: fmt::Debug> fmt::Debug for IntoIter<T> {
 }
 
 /// Returns an iterator over the items, in the order in which they are stored. It allocates no
-/// memory. Makes no comparison.
+/// memory.
 ///
 /// # Examples
 ///

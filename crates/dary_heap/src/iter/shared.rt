@@ -37,7 +37,6 @@ impl<'a, T> Model for Iter<'a, T> {
 
 impl<T, const D: usize, J: Judge<T>> DaryHeap<T, D, J> {
     /// Returns an iterator over references to the items, in the order in which they are stored.
-    /// Makes no comparison.
     ///
     /// # Examples
     ///

@@ -18,7 +18,6 @@ use std::{fmt, mem};
 
 impl<T, const D: usize, J: Judge<T>> DaryHeap<T, D, J> {
     /// Returns a greatest item for reading, writing or taking out, or `None` if the heap is empty.
-    /// Makes no comparison.
     ///
     /// It is the item that [`peek`](DaryHeap::peek) returns. [`PeekMut`] says what may be done with
     /// it, and how many comparisons its end takes.
@@ -154,7 +153,7 @@ impl<T, const D: usize, J: Judge<T>> PeekMut<'_, T, D, J> {
     }
 }
 
-/// Returns the item: the heap's first one at the start, and then what was written last. Makes no comparison.
+/// Returns the item: the heap's first one at the start, and then what was written last.
 ///
 /// # Examples
 ///
@@ -173,7 +172,7 @@ impl<T, const D: usize, J: Judge<T>> Deref for PeekMut<'_, T, D, J> {
     }
 }
 
-/// Returns the item for writing. From this call on it counts as written. Makes no comparison.
+/// Returns the item for writing. From this call on it counts as written.
 ///
 /// # Examples
 ///

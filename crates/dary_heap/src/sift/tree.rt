@@ -13,7 +13,7 @@ pub(crate) fn arity<const D: usize>() -> usize
 
 /// Returns the parent of a place in the tree of arity `D`: `(place - 1) / D`, or `place - 1` if `D` is 0.
 ///
-/// It is before the place. Takes *O*(1), without a comparison.
+/// It is before the place. Takes *O*(1).
 ///
 /// # Preconditions
 ///
@@ -40,7 +40,7 @@ pub fn parent<const D: usize>(place: usize) -> usize
 /// parent's for every other.
 ///
 /// From arity 2 on it is logarithmic: the arity to the power of it is at most
-/// `(arity - 1) * place + 1`. The call makes no comparison, and takes one step for each level.
+/// `(arity - 1) * place + 1`. The call takes one step for each level.
 ///
 /// # Examples
 ///

@@ -10,7 +10,7 @@ use crate::table::place_of;
 use dary_heap::sift::Judge;
 
 impl<T, const D: usize, J: Judge<T>> IndexedHeap<T, D, J> {
-    /// Returns a reference to the item of a key, or `None` if it has none. Takes *O*(1), without a comparison.
+    /// Returns a reference to the item of a key, or `None` if it has none. Takes *O*(1).
     ///
     /// # Examples
     ///
@@ -32,7 +32,7 @@ impl<T, const D: usize, J: Judge<T>> IndexedHeap<T, D, J> {
         }
     }
 
-    /// Returns `true` if a key has an item. Takes *O*(1), without a comparison.
+    /// Returns `true` if a key has an item. Takes *O*(1).
     ///
     /// # Examples
     ///
@@ -50,7 +50,7 @@ impl<T, const D: usize, J: Judge<T>> IndexedHeap<T, D, J> {
         place_of(self.entries.as_slice(), self.places.as_slice(), key).is_some()
     }
 
-    /// Returns an entry with a greatest item, or `None` if there are no entries. Takes *O*(1), without a comparison.
+    /// Returns an entry with a greatest item, or `None` if there are no entries. Takes *O*(1).
     ///
     /// It is the first entry of [`as_slice`](IndexedHeap::as_slice), and the one that the next
     /// [`pop`](IndexedHeap::pop) returns.

@@ -13,7 +13,7 @@ use dary_heap::sift::{ByOrd, Judge};
 use std::alloc::{AllocError, Global};
 
 impl<T: Ord, const D: usize> IndexedHeap<T, D> {
-    /// Returns an empty heap with room for at least `entries` entries, of keys below `keys`. Makes no comparison.
+    /// Returns an empty heap with room for at least `entries` entries, of keys below `keys`.
     ///
     /// # Errors
     ///
@@ -68,7 +68,7 @@ impl<T, const D: usize, J: Judge<T>> IndexedHeap<T, D, J> {
     }
 
     /// Returns the number below which keys need no room in the table of places. Each key that has an item is below it.
-    /// Takes *O*(1), without a comparison.
+    /// Takes *O*(1).
     ///
     /// An insert allocates memory only if its key has no item, and the length has reached the
     /// [`capacity`](IndexedHeap::capacity) or the key this number.
@@ -89,7 +89,7 @@ impl<T, const D: usize, J: Judge<T>> IndexedHeap<T, D, J> {
         self.places.len()
     }
 
-    /// Reserves room for at least `additional` more entries, and for the keys below `keys`. Makes no comparison.
+    /// Reserves room for at least `additional` more entries, and for the keys below `keys`.
     ///
     /// After `Ok` that many inserts of such keys allocate no memory, and don't fail. [`key_capacity`] is then
     /// `keys`, or stays if it was more. If there is room already, the call does nothing.
@@ -134,7 +134,7 @@ impl<T, const D: usize, J: Judge<T>> IndexedHeap<T, D, J> {
 
     /// Gives room back. There stays room for `min_capacity` entries, or for those that are there if they are more, and
     /// for the keys below `min_keys`, or up to the greatest one if that is greater. Of less room than that none is made.
-    /// Takes *O*(*n*), without a comparison.
+    /// Takes *O*(*n*).
     ///
     /// # Errors
     ///

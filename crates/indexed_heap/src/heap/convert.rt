@@ -15,7 +15,7 @@ use std::default::{Emptied, MadeWith};
 use std::fmt;
 
 impl<T: Ord, const D: usize> IndexedHeap<T, D> {
-    /// Returns a copy of the heap: the keys with the items' clones, in the same order. Makes no comparison.
+    /// Returns a copy of the heap: the keys with the items' clones, in the same order.
     ///
     /// # Preconditions
     ///

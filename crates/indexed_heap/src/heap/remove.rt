@@ -189,7 +189,7 @@ impl<T, const D: usize, J: Judge<T>> IndexedHeap<T, D, J> {
         retain_entries::<T, ByItem<J>, F, D>(&mut self.entries, places, f);
     }
 
-    /// Drops all entries. No room is given back. Makes no comparison.
+    /// Drops all entries. No room is given back.
     ///
     /// # Examples
     ///

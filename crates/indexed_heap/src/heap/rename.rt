@@ -10,7 +10,7 @@ use dary_heap::sift::Judge;
 
 impl<T, const D: usize, J: Judge<T>> IndexedHeap<T, D, J> {
     /// Gives the entry of a key another key, which has no item so far. If `key` has no item, nothing changes. Takes
-    /// *O*(1), without a comparison.
+    /// *O*(1).
     ///
     /// The entry stays where it is, with its item. This serves callers who number things without gaps: when one leaves,
     /// the last one gets its number.

@@ -128,7 +128,7 @@ impl<T, const D: usize, J: Judge<T>> IndexedHeap<T, D, J> {
 }
 
 impl<'a, T, const D: usize, J: Judge<T>> IterSorted<'a, T, D, J> {
-    /// Returns the judge by which the iterator compares, as to read its count. Makes no comparison.
+    /// Returns the judge by which the iterator compares, as to read its count.
     ///
     /// # Examples
     ///

@@ -42,7 +42,6 @@ impl<'a, T> Model for Iter<'a, T> {
 
 impl<T, const D: usize, J: Judge<T>> IndexedHeap<T, D, J> {
     /// Returns an iterator over the keys, each with a reference to its item, in the order in which they are stored.
-    /// Makes no comparison.
     ///
     /// # Examples
     ///

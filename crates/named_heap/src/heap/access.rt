@@ -29,7 +29,7 @@ impl<K: Eq + Hash, T, const D: usize, J: Judge<T>, S: BuildHasher> NamedHeap<K, 
         self.heap.get(key)
     }
 
-    /// Returns `true` if a name has an item. Takes *O*(1) on average, without a comparison.
+    /// Returns `true` if a name has an item. Takes *O*(1) on average.
     ///
     /// # Examples
     ///
@@ -46,7 +46,7 @@ impl<K: Eq + Hash, T, const D: usize, J: Judge<T>, S: BuildHasher> NamedHeap<K, 
         self.get(name).is_some()
     }
 
-    /// Returns an entry with a greatest item, or `None` if there are no entries. Takes *O*(1), without a comparison.
+    /// Returns an entry with a greatest item, or `None` if there are no entries. Takes *O*(1).
     ///
     /// It is the first entry of [`iter`](NamedHeap::iter), and the one that the next [`pop`](NamedHeap::pop) returns.
     ///

@@ -8,7 +8,7 @@ use std::alloc::{AllocError, Global};
 use std::hash::{BuildHasher, Hash};
 
 impl<K: Eq + Hash + Drop, T: Ord + Drop, const D: usize> NamedHeap<K, T, D> {
-    /// Returns an empty heap with room for at least `names` names. Makes no comparison.
+    /// Returns an empty heap with room for at least `names` names.
     ///
     /// # Errors
     ///
@@ -35,7 +35,7 @@ impl<K: Eq + Hash + Drop, T: Ord + Drop, const D: usize> NamedHeap<K, T, D> {
 
 impl<K: Eq + Hash, T, const D: usize, J: Judge<T>, S: BuildHasher> NamedHeap<K, T, D, J, S> {
     /// Returns the number of new names that there is room for: so many inserts allocate no memory, and don't fail.
-    /// Takes *O*(1), without a comparison.
+    /// Takes *O*(1).
     ///
     /// A name that leaves needn't give its place back ([more](crate#room)).
     ///
@@ -56,7 +56,7 @@ impl<K: Eq + Hash, T, const D: usize, J: Judge<T>, S: BuildHasher> NamedHeap<K, 
         (self.names.capacity() - self.names.len()).min(entries.min(keys))
     }
 
-    /// Reserves room for at least `additional` more names. Makes no comparison.
+    /// Reserves room for at least `additional` more names.
     ///
     /// After `Ok` that many inserts allocate no memory, and don't fail. If there is room already, the call does nothing.
     ///
@@ -94,8 +94,7 @@ impl<K: Eq + Hash, T, const D: usize, J: Judge<T>, S: BuildHasher> NamedHeap<K, 
         self.names.reserve(additional)
     }
 
-    /// Gives room back. There stays room for `names` more names, or as much as there is if that is less. Takes *O*(*n*),
-    /// without a comparison.
+    /// Gives room back. There stays room for `names` more names, or as much as there is if that is less. Takes *O*(*n*).
     ///
     /// If the allocator can't provide a smaller block, the one that is there is kept.
     ///
@@ -124,7 +123,7 @@ impl<K: Eq + Hash, T, const D: usize, J: Judge<T>, S: BuildHasher> NamedHeap<K, 
         let _ = self.heap.shrink_to(capacity, capacity);
     }
 
-    /// Gives back all room for names that aren't there. Takes *O*(*n*), without a comparison.
+    /// Gives back all room for names that aren't there. Takes *O*(*n*).
     ///
     /// If the allocator can't provide a smaller block, the one that is there is kept.
     ///

@@ -10,7 +10,7 @@ use std::fmt;
 use std::hash::{BuildHasher, Hash};
 
 impl<K: Eq + Hash, T: Ord, const D: usize, S: BuildHasher> NamedHeap<K, T, D, ByOrd, S> {
-    /// Returns a copy of the heap: clones of the names and the items, in the same order. Makes no comparison.
+    /// Returns a copy of the heap: clones of the names and the items, in the same order.
     ///
     /// # Preconditions
     ///

@@ -145,7 +145,7 @@ impl<K: Eq + Hash, T, const D: usize, J: Judge<T>, S: BuildHasher> NamedHeap<K, 
         }
     }
 
-    /// Drops all entries. Makes no comparison.
+    /// Drops all entries.
     ///
     /// No room is given back: there is room for as many names as there were and as there was room for.
     ///

@@ -47,7 +47,6 @@ impl<'a, K, T> Model for Iter<'a, K, T> {
 
 impl<K: Eq + Hash, T, const D: usize, J: Judge<T>, S: BuildHasher> NamedHeap<K, T, D, J, S> {
     /// Returns an iterator over the names, each with a reference to its item, in the order in which they are stored.
-    /// Makes no comparison.
     ///
     /// # Examples
     ///
