@@ -14,11 +14,7 @@ module _ {X : Type 0} {entries : List (ℕ × X)} {places : List ℕ} (h : AreRi
   pub distinct : AreDistinct entries
   distinct = record { once = (right_keys key_of h).distinct }
 
-  -- so a key has one place
-  pub one_place : (i j key : ℕ) → IsEntry entries i key → IsEntry entries j key → i ≡ j
-  one_place i j key a b = distinct.once i j a.entry b.entry a.there b.there (a.has ∙ sym b.has)
-
-  -- in the table
+  -- and of a key that an entry has
   pub has_key : (i key : ℕ) → IsEntry entries i key → key < length places
   has_key i key a = let inside = has_place i a.entry a.there in omega (arith, inside, a.has)
 

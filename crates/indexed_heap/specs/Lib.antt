@@ -9,4 +9,5 @@ pub mod Making
 pub mod Places
 pub mod Renaming
 pub mod Showing
+pub mod Storing
 pub mod Ways

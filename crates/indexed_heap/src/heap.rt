@@ -19,6 +19,7 @@ mod change;
 mod convert;
 mod remove;
 mod rename;
+mod table;
 
 /// A priority queue of items with keys. [`pop`](IndexedHeap::pop) returns an entry, a key with its item, of which the
 /// item is a greatest one: no other is strictly greater.

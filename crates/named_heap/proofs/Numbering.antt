@@ -5,8 +5,9 @@ use Rattle.dary_heap.proofs.Common.{Contains, IsPermutation, Ordering, RisesWith
 use Rattle.dary_heap.proofs.Cancelling.{IsPermutation-flat_map}
 use Rattle.dary_heap.proofs.Order.{slice_get-append, slice_get-push}
 use Rattle.dary_heap.proofs.Common.{false, if◌then◌else◌, OnFalse, length_permutation}
-use Rattle.indexed_heap.proofs.AsMap.{Gets-given, item_of-absent, item_of-has, none_there}
-use Rattle.indexmap.specs.IndexSet.{insert_key}
+use Rattle.indexed_heap.proofs.AsMap.{Gets-given, item_of-has, none_there}
+use Rattle.indexmap.specs.IndexSet.{IndexSet, insert_key, spare}
+use Rattle.std.specs.Prelude.{IsSome, max}
 use Rattle.std.specs.Bool.{OnTrue}
 use Rattle.std.specs.List.{list_any}
 use Rattle.std.specs.Cmp.{IsEquivalence}
@@ -14,10 +15,11 @@ use Rattle.std.specs.List.{IsDistinct}
 use Rattle.std.specs.Map.{lookup}
 use Rattle.indexed_heap.proofs.AsMap.{Gets-here, Gets-others, item_of-none}
 use Rattle.indexed_heap.specs.Entries as idx
-use Rattle.indexed_heap.specs.Entries.{IsAbsent, IsEntry, item_of}
+use Rattle.indexed_heap.specs.Entries.{Indexed, IsEntry, item_of}
 use Rattle.named_heap.specs.Entries.{Gets, InsertsWithin, IsReached, Raises, entries_of}
-use Rattle.named_heap.specs.Names.{AreKeyed, AreNamed, Numbers, entry_of, named}
-use Rattle.named_heap.proofs.Naming.{alone, contains_at, keyed_from, keyed_later, length-named, lookup-named, lookup-none, named_first, named_from, named_there, none_passes}
+use Rattle.named_heap.specs.Names.{AreKeyed, AreNamed, HasRoomFor, Numbers, entry_of, named, room_of}
+use Rattle.named_heap.proofs.Counting.{entry_of_name}
+use Rattle.named_heap.proofs.Naming.{alone, contains_at, keyed_from, keyed_later, length-named, lookup-named, lookup-none, lookup_missing, named_first, named_from, named_there, none_passes}
 
 -- what the set of names does when a name is inserted
 pub numbered : {K : Type 0} {eq : K → K → Bool} (name : K) (key : ℕ) (names more : List K) → more ≡ insert_key eq names name → key < length more → (k : K) → slice_get more key ≡ Some k →
@@ -42,20 +44,6 @@ numbered {K} {eq} name key names more keys inside k there same = by (list_any (e
         let at_last : slice_get (names ++ name ∷ []) key ≡ Some name = ap (slice_get (names ++ name ∷ [])) last ∙ slice_get-push names name in
         let is_name : k ≡ name = cc in
         record { stored = k; there = there; same = same; either = inr (shape, is_name, last, is) }
-
-push_same : {K : Type 0} (xs ys : List K) (x y : K) → xs ++ x ∷ [] ≡ ys ++ y ∷ [] → (xs ≡ ys) × (x ≡ y)
-push_same [] [] x y h = (refl, cc)
-push_same {K} [] (b ∷ ys) x y h =
-    let long : length (x ∷ []) ≡ length (b ∷ (ys ++ y ∷ [])) = ap (λ (l : List K). length l) h in
-    absurd (omega (arith, long, length-append ys (y ∷ [])))
-push_same {K} (a ∷ xs) [] x y h =
-    let long : length (a ∷ (xs ++ x ∷ [])) ≡ length (y ∷ []) = ap (λ (l : List K). length l) h in
-    absurd (omega (arith, long, length-append xs (x ∷ [])))
-push_same (a ∷ xs) (b ∷ ys) x y h =
-    let head : a ≡ b = cc in
-    let rest : xs ++ x ∷ [] ≡ ys ++ y ∷ [] = cc in
-    let both = push_same xs ys x y rest in
-    (λ i. head i ∷ both.0 i, both.1)
 
 -- there is one entry more at most
 pub length_gets : {T : Type 0} (key : ℕ) (item : T) (old new : List (ℕ × T)) (given : Option T) → idx.Gets key item old given new → length new ≤ length old + 1
@@ -179,9 +167,13 @@ module _ {K T : Type 0} {eq : K → K → Bool} {cmp : T → T → Ordering} {D 
     | inr new ↦ (let long : length more ≡ length (names ++ name ∷ []) = ap (λ (l : List K). length l) new.0 in omega (arith, long, length-append names (name ∷ [])))
   ]
 
-  -- the name is taken out again
-  pub taken_back : IsAbsent key old → (left : List K) (back : K) → more ≡ left ++ back ∷ [] → (left ≡ names) × (back ≡ name)
-  taken_back absent left back shape = push_same left names back name (sym shape ∙ (is_new (item_of-absent key old absent)).0)
+  -- there is an entry of the number, or room for one
+  pub has_room : {P : Type 0} (heap : Indexed T) → heap.entries ≡ old → HasRoomFor key names heap → ((at : ℕ) → IsEntry heap.entries at key → P) → (length heap.entries < heap.capacity →
+      key < heap.keys → P) → P
+  has_room heap same room present succeeds = elim room [
+    | inl low ↦ (let there = entry_of_name names old h key low in present there.0 (subst (λ (l : List (ℕ × T)). IsEntry l there.0 key) (sym same) there.1))
+    | inr some ↦ succeeds some.0 some.1
+  ]
 
   -- a name that has an item has a number
   pub same_names : (x : T) → Contains old (key, x) → more ≡ names
@@ -190,14 +182,15 @@ module _ {K T : Type 0} {eq : K → K → Bool} {cmp : T → T → Ordering} {D 
     | inr new ↦ (let past : length names ≤ key = omega (arith, new.2) in absurd (none_there key old x (item_of-none key old (h.bare key past)) in'))
   ]
 
-  module _ (item : T) (new : List (ℕ × T)) where
-    pub raise_named : (b : Bool) → OnTrue b (idx.Raises (idx.by_item cmp) key item old new) → OnFalse b (idx.IsReached (idx.by_item cmp) key item old × (new ≡ old)) → idx.AreSound cmp D new →
+  -- a raise or, by the other order, a lowering
+  module _ (order : T → T → Ordering) (item : T) (new : List (ℕ × T)) where
+    pub raise_named : (b : Bool) → OnTrue b (idx.Raises (idx.by_item order) key item old new) → OnFalse b (idx.IsReached (idx.by_item order) key item old × (new ≡ old)) → idx.AreSound cmp D new →
         IsDistinct eq more → AreNamed eq cmp D more new
     raise_named true raised reached sound unique = gets_named unique item new raised.given sound raised.gets
     raise_named false raised reached sound unique =
         subst (λ (l : List K). AreNamed eq cmp D l new) (sym (same_names reached.0.held reached.0.has)) (subst (λ (l : List (ℕ × T)). AreNamed eq cmp D names l) (sym reached.1) h)
 
-    pub raised_named : (b : Bool) → AreNamed eq cmp D more new → OnTrue b (idx.Raises (idx.by_item cmp) key item old new) → OnTrue b (Raises eq name cmp item (named names old) (named more new))
+    pub raised_named : (b : Bool) → AreNamed eq cmp D more new → OnTrue b (idx.Raises (idx.by_item order) key item old new) → OnTrue b (Raises eq name order item (named names old) (named more new))
     raised_named true are raised = record {
       given = raised.given;
       gets = named_gets item new are.bare raised.given raised.gets (Gets-given key item old new raised.given raised.gets h.sound.distinct);
@@ -205,14 +198,46 @@ module _ {K T : Type 0} {eq : K → K → Bool} {cmp : T → T → Ordering} {D 
     }
     raised_named false are raised = tt
 
-    pub reached_named : (b : Bool) → OnFalse b (idx.IsReached (idx.by_item cmp) key item old × (new ≡ old)) →
-        OnFalse b (IsReached eq name cmp item (named names old) × (named more new ≡ named names old))
+    pub reached_named : (b : Bool) → OnFalse b (idx.IsReached (idx.by_item order) key item old × (new ≡ old)) →
+        OnFalse b (IsReached eq name order item (named names old) × (named more new ≡ named names old))
     reached_named true reached = tt
     reached_named false reached = (
       record { held = reached.0.held; has = lookup_key ∙ item_of-has key old reached.0.held h.sound.distinct reached.0.has; under = reached.0.under },
       λ i. named (same_names reached.0.held reached.0.has i) (reached.1 i),
     )
 
-    pub length_raised : (b : Bool) → OnTrue b (idx.Raises (idx.by_item cmp) key item old new) → OnFalse b (idx.IsReached (idx.by_item cmp) key item old × (new ≡ old)) → length new ≤ length old + 1
+    pub length_raised : (b : Bool) → OnTrue b (idx.Raises (idx.by_item order) key item old new) → OnFalse b (idx.IsReached (idx.by_item order) key item old × (new ≡ old)) → length new ≤ length old + 1
     length_raised true raised reached = length_gets key item old new raised.given raised.gets
     length_raised false raised reached = (let long : length new ≡ length old = ap (λ (l : List (ℕ × T)). length l) reached.1 in omega (arith, long))
+
+-- a name that has an item keeps the room: its number is there, and so is its entry
+module _ {K T S : Type 0} {eq : K → K → Bool} {cmp : T → T → Ordering} {D : ℕ} (laws : IsEquivalence eq) (name : K) (key : ℕ) (names more : IndexSet K S) (n : Numbers eq name key names.keys more.keys)
+    (old mid new : Indexed T) (h : AreNamed eq cmp D names.keys old.entries) where
+  pub same_room : (list_any (eq name) names.keys ≡ true → (more ≡ names) × (mid ≡ old)) → length new.entries ≡ length mid.entries + (if is_some (item_of key mid.entries) then 0 else 1) →
+      ((at : ℕ) → IsEntry mid.entries at key → new.capacity ≡ mid.capacity) → new.keys ≡ max mid.keys (key + 1) → IsSome (lookup (eq name) (named names.keys old.entries)) →
+      room_of more new ≡ room_of names old
+  same_room kept len roomy widened some =
+      let listed : list_any (eq name) names.keys ≡ true = by (list_any (eq name) names.keys) refl in
+      let same = kept listed in
+      let long : length more.keys ≡ length names.keys = ap (λ (s : IndexSet K S). length s.keys) same.0 in
+      let low : key < length names.keys = omega (arith, slice_get_within more.keys key n.stored n.there, long) in
+      let there = entry_of_name names.keys old.entries h key low in
+      let capacity : new.capacity ≡ mid.capacity = roomy there.0 (subst (λ (l : List (ℕ × T)). IsEntry l there.0 key) (sym (ap (λ (i : Indexed T). i.entries) same.1)) there.1) in
+      let has : is_some (item_of key mid.entries) ≡ true = ap (λ (i : Indexed T). is_some (item_of key i.entries)) same.1 ∙ h.held key low in
+      let count : length new.entries ≡ length mid.entries + 0 = len ∙ ap (λ (b : Bool). length mid.entries + (if b then 0 else 1)) has in
+      omega (
+        arith,
+        ap (λ (s : IndexSet K S). spare s) same.0,
+        long,
+        low,
+        capacity,
+        count,
+        widened,
+        ap (λ (i : Indexed T). i.capacity) same.1,
+        ap (λ (i : Indexed T). i.keys) same.1,
+        ap (λ (i : Indexed T). length i.entries) same.1,
+      )
+    where
+      by : (b : Bool) → list_any (eq name) names.keys ≡ b → list_any (eq name) names.keys ≡ true
+      by true is = is
+      by false is = absurd (true≢false (sym some ∙ ap is_some (lookup_missing names.keys old.entries h laws (eq name) is)))

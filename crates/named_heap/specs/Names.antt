@@ -46,3 +46,7 @@ pub record Numbers {K : Type 0} (eq : K → K → Bool) (name : K) (key : ℕ) (
   pub there : slice_get more key ≡ Some stored
   pub same : eq name stored ≡ true
   pub either : (more ≡ names) ⊎ ((more ≡ names ++ name ∷ []) × (stored ≡ name) × (key ≡ length names) × (list_any (eq name) names ≡ false))
+
+-- this number is that of one of the names, or the heap has room for one more entry, with this number as its key
+abbrev pub HasRoomFor : {K T : Type 0} → ℕ → List K → Indexed T → Type 0
+HasRoomFor key names heap = (key < length names) ⊎ ((length heap.entries < heap.capacity) × (key < heap.keys))

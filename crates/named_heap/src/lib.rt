@@ -45,6 +45,7 @@
 //! | [`insert`](NamedHeap::insert) of a name without an item | the depth of the new place: *O*(log *n*) |
 //! | [`insert`](NamedHeap::insert) of a name with an item, [`change`](NamedHeap::change) | the depth of its place, and `D` for each level from there down to that of the last place |
 //! | [`raise`](NamedHeap::raise) | one more than the depth of a new place |
+//! | [`lower`](NamedHeap::lower) | one more than `D` times the depth of the last place |
 //! | [`pop`](NamedHeap::pop), [`pop_if`](NamedHeap::pop_if), [`remove`](NamedHeap::remove) | `D` times the depth of the last place that remains: *O*(log *n*) |
 //! | an item of [`into_iter_sorted`](NamedHeap::into_iter_sorted) | as `pop` |
 //! | an item of [`iter_sorted`](NamedHeap::iter_sorted) | a pop and `D` pushes in a heap of arity 4 of the `1 + (D - 1) * k` that may come after `k` items |

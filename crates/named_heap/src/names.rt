@@ -1,8 +1,8 @@
 //! Names with their numbers, which are the keys of a heap's entries: what a call does to both.
-ghost use Rattle.std.specs.Prelude.{◌≡◌, ◌+◌, ◌<◌, ◌≤◌, ◌∷◌, ◌++◌, [], false, length, slice_get, Some, IsOk, IfErr, IfOk, OnErr};
+ghost use Rattle.std.specs.Prelude.{◌≡◌, ◌+◌, ◌<◌, ◌≤◌, true, false, length, slice_get, Some, IsOk, IfErr, IfOk, OnErr};
 ghost use Rattle.std.specs.List.{IsDistinct, list_any};
 ghost use Rattle.indexmap.specs.IndexSet.{spare};
-ghost use Rattle.named_heap.specs.Names.{AreNamed, AreNamedBut, Numbers, named};
+ghost use Rattle.named_heap.specs.Names.{AreNamed, AreNamedBut, HasRoomFor, Numbers, named, room_of};
 
 use dary_heap::sift::Judge;
 use indexed_heap::IndexedHeap;
@@ -34,34 +34,37 @@ pub(crate) fn free<K: Eq + Hash, T, const D: usize, J: Judge<T>, S: BuildHasher>
     name
 }
 
-/// Returns the number of a name, which is new if no name is equal. If it fails, the name comes back.
-pub(crate) fn number<K: Eq + Hash + Drop, S: BuildHasher>(
+/// Returns the number of a name, which is new if no name is equal: the heap has room for its entry then. If it fails, the
+/// name comes back. A name is looked up before any room is made, so that none is if it is there.
+pub(crate) fn number<K: Eq + Hash + Drop, T, const D: usize, J: Judge<T>, S: BuildHasher>(
     names: &mut IndexSet<K, S>,
+    heap: &mut IndexedHeap<T, D, J>,
     name: K,
 ) -> Result<usize, K>
+    requires unique { IsDistinct K.eq names.old.keys }
     ensures numbers { IfOk result (λ key. Numbers K.eq name key names.old.keys names.new.keys) }
     ensures unique { IsDistinct K.eq names.new.keys }
+    ensures room { IfOk result (λ key. HasRoomFor key names.old.keys heap.new) }
     ensures returned { IfErr result (λ back. back ≡ name) }
     ensures unchanged { OnErr result (names.new.keys ≡ names.old.keys) }
     ensures absent { OnErr result (list_any (K.eq name) names.old.keys ≡ false) }
-    ensures succeeds { 0 < spare names.old → IsOk result }
+    ensures succeeds { 0 < room_of names.old heap.old → IsOk result }
     ensures spare { spare names.old ≤ spare names.new + 1 }
+    ensures kept { list_any (K.eq name) names.old.keys ≡ true
+        → (names.new ≡ names.old) × (heap.new ≡ heap.old) }
+    ensures entries { heap.new.entries ≡ heap.old.entries }
+    ensures capacity { heap.old.capacity ≤ heap.new.capacity }
+    ensures keys { heap.old.keys ≤ heap.new.keys }
+    ensures uncounted { heap.new.comparisons ≡ heap.old.comparisons }
 {
+    if let Some(key) = names.get_index_of(&name) {
+        return Ok(key);
+    }
+    if heap.reserve(1, names.len() + 1).is_err() {
+        return Err(name);
+    }
     match names.insert_full(name) {
         Ok((key, _)) => Ok(key),
         Err(refused) => Err(refused.value),
     }
-}
-
-/// Takes the last name out.
-pub(crate) fn last<K: Eq + Hash, S: BuildHasher>(names: &mut IndexSet<K, S>) -> K
-    requires { 0 < length names.old.keys }
-    ensures last { names.old.keys ≡ names.new.keys ++ result ∷ [] }
-    ensures unique { IsDistinct K.eq names.new.keys }
-    ensures spare { spare names.old ≤ spare names.new }
-{
-    let Some(name) = names.pop() else {
-        unreachable!();
-    };
-    name
 }

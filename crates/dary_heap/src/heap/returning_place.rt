@@ -7,17 +7,19 @@
 //! `proofs/Path.antt` has laws of the path, and `proofs/Placing.antt` of a table of places: it is right for all items off
 //! the path (`went`, `went_up`, `went_down`), and for each once the places of those on the path are written, from the
 //! lower end on (`noted_next`, `noted_last`).
-ghost use Rattle.std.specs.Prelude.{◌≡◌, ◌≢◌, ◌+◌, ◌-◌, ◌<◌, ◌≤◌, [], ◌∷◌, ◌++◌, length, set, slice_get, Some, IfOk, IfErr, OnErr};
+ghost use Rattle.std.specs.Prelude.{◌≡◌, ◌≢◌, ◌+◌, ◌-◌, ◌*◌, ◌<◌, ◌≤◌, [], ◌∷◌, ◌++◌, length, set, slice_get, Some, IfOk, IfErr, OnErr};
 ghost use Rattle.std.specs.List.{swap_remove};
 ghost use Rattle.std.specs.declared.cmp.Ordering.TheVariants.{Greater};
 ghost use Rattle.dary_heap.specs.Bag.{IsSameBag};
 ghost use Rattle.dary_heap.specs.Bounds.{RisesWithin, fix_bound, push_bound};
-ghost use Rattle.dary_heap.specs.HeapOrder.{IsHeapOrdered, depth};
+ghost use Rattle.dary_heap.specs.HeapOrder.{IsHeapOrdered, arity, depth};
 ghost use Rattle.dary_heap.specs.Path.{GoesTo, GoesUp};
 ghost use Rattle.dary_heap.specs.BagState.{front, front_with};
 
 use super::DaryHeap;
-use crate::sift::{Judge, fix_with, push_reserved_with, sift_to_bottom_with, sift_up_with};
+use crate::sift::{
+    Judge, fix_with, push_reserved_with, sift_down, sift_to_bottom_with, sift_up_with,
+};
 use std::mem;
 
 impl<T, const D: usize, J: Judge<T>> DaryHeap<T, D, J> {
@@ -179,9 +181,10 @@ impl<T, const D: usize, J: Judge<T>> DaryHeap<T, D, J> {
             (depth D place + 1) }
         ensures capacity { self.new.capacity ≡ self.old.capacity }
 
-        // It gives back an item that isn't greater, and then none has moved.
+        // It gives back an item that isn't greater, after one comparison, and then none has moved.
         ensures under { OnErr result ((held : T) → slice_get self.old.items place ≡ Some held
             → J.order item held ≢ Greater) }
+        ensures once { OnErr result (RisesWithin self.old.comparisons self.new.comparisons 1) }
         ensures returned { IfErr result (λ back. back ≡ item) }
         ensures unchanged { OnErr result (self.new.items ≡ self.old.items) }
     {
@@ -196,7 +199,8 @@ impl<T, const D: usize, J: Judge<T>> DaryHeap<T, D, J> {
     /// Puts a strictly lesser item at a place, and returns the one that was there with the place where the new one stops
     /// on its way down. An item that isn't less is given back.
     ///
-    /// The call takes at most one comparison more than [`replace_at`](DaryHeap::replace_at). The capacity stays the same.
+    /// The call takes at most `D` comparisons for each level from the place down to that of the last one, and one more. The
+    /// capacity stays the same.
     ///
     /// # Preconditions
     ///
@@ -228,18 +232,22 @@ impl<T, const D: usize, J: Judge<T>> DaryHeap<T, D, J> {
         ensures len { length self.new.items ≡ length self.old.items }
         ensures ordered { IsHeapOrdered J.order D self.new.items }
         ensures counted { RisesWithin self.old.comparisons self.new.comparisons
-            (fix_bound D (length self.old.items) place + 1) }
+            (arity D * (depth D (length self.old.items - 1) - depth D place) + 1) }
         ensures capacity { self.new.capacity ≡ self.old.capacity }
 
-        // It gives back an item that isn't less, and then none has moved.
+        // It gives back an item that isn't less, after one comparison, and then none has moved.
         ensures above { OnErr result ((held : T) → slice_get self.old.items place ≡ Some held
             → J.order held item ≢ Greater) }
+        ensures once { OnErr result (RisesWithin self.old.comparisons self.new.comparisons 1) }
         ensures returned { IfErr result (λ back. back ≡ item) }
         ensures unchanged { OnErr result (self.new.items ≡ self.old.items) }
     {
         if self.judge.at_most(&self.items[place], &item) {
             return Err(item);
         }
-        Ok(self.replace_at_returning_place(place, item))
+        let old = mem::replace(&mut self.items[place], item);
+        // (it is less than the old one, so it doesn't go up)
+        let stop = sift_down::<T, J, D>(self.items.as_mut_slice(), place, &mut self.judge);
+        Ok((old, stop))
     }
 }

@@ -6,7 +6,6 @@ ghost use Rattle.dary_heap.specs.Bag.{IsGreatest};
 ghost use Rattle.indexed_heap.specs.Entries.{AreSound, IsAbsent, by_item, item_of};
 
 use super::IndexedHeap;
-use crate::table::place_of;
 use dary_heap::sift::Judge;
 
 impl<T, const D: usize, J: Judge<T>> IndexedHeap<T, D, J> {
@@ -26,10 +25,10 @@ impl<T, const D: usize, J: Judge<T>> IndexedHeap<T, D, J> {
         ensures absent { IfNone result (IsAbsent key self.now.entries) }
         ensures map { option_copied result ≡ item_of key self.now.entries }
     {
-        match place_of(self.entries.as_slice(), self.places.as_slice(), key) {
-            Some(at) => Some(&self.entries.as_slice()[at].1),
-            None => None,
-        }
+        let Some(at) = self.place_of(key) else {
+            return None;
+        };
+        Some(&self.as_slice()[at].1)
     }
 
     /// Returns `true` if a key has an item. Takes *O*(1).
@@ -47,7 +46,7 @@ impl<T, const D: usize, J: Judge<T>> IndexedHeap<T, D, J> {
         ensures present { OnTrue result (IsAbsent key self.now.entries → ⊥) }
         ensures absent { OnFalse result (IsAbsent key self.now.entries) }
     {
-        place_of(self.entries.as_slice(), self.places.as_slice(), key).is_some()
+        self.place_of(key).is_some()
     }
 
     /// Returns an entry with a greatest item, or `None` if there are no entries. Takes *O*(1).

@@ -6,8 +6,8 @@ ghost use Rattle.indexed_heap.specs.Iterating.{contents};
 ghost use Rattle.indexed_heap.specs.Keys.{key_bound};
 
 use super::IndexedHeap;
+use super::table::widen;
 use crate::judge::ByItem;
-use crate::table::{grow, widen};
 use dary_heap::DaryHeap;
 use dary_heap::sift::{ByOrd, Judge};
 use std::alloc::{AllocError, Global};
@@ -121,6 +121,7 @@ impl<T, const D: usize, J: Judge<T>> IndexedHeap<T, D, J> {
         ensures kept { length self.old.entries + additional ≤ self.old.capacity
             → self.new.capacity ≡ self.old.capacity }
         ensures kept_keys { keys ≤ self.old.keys → self.new.keys ≡ self.old.keys }
+        ensures same_keys { OnErr result (self.new.keys ≡ self.old.keys) }
 
         // It fails only if some of that room was missing.
         ensures succeeds { length self.old.entries + additional ≤ self.old.capacity
@@ -128,7 +129,7 @@ impl<T, const D: usize, J: Judge<T>> IndexedHeap<T, D, J> {
         ensures full { OnErr result ((self.old.capacity < length self.old.entries + additional)
             ⊎ (self.old.keys < keys)) }
     {
-        grow::<(usize, T), ByItem<J>, D>(&mut self.entries, additional)?;
+        self.entries.reserve(additional)?;
         widen(&mut self.places, keys)
     }
 

@@ -1,13 +1,13 @@
-//! Calls that give a key an item.
-ghost use Rattle.std.specs.Prelude.{◌≡◌, ℕ, ◌+◌, ◌<◌, ◌≤◌, ◌⊎◌, length, max, is_some, IfOk, IfErr, OnErr, OnOk, IsOk, if◌then◌else◌};
+//! Calls that give a key an item, or change the one that it has.
+ghost use Rattle.std.specs.Prelude.{◌≡◌, ℕ, ◌+◌, length, is_some, Some, IfSome, IfNone, IfOk, OnOk, if◌then◌else◌};
 ghost use Rattle.std.specs.Bool.{OnTrue, OnFalse};
+ghost use Rattle.std.specs.Fn.{FnOnceReturnsAt, FnOnceTakesAt};
 ghost use Rattle.std.specs.Ordering.{flip_args};
-ghost use Rattle.dary_heap.specs.Bounds.{RisesWithin, push_bound, sink_bound};
-ghost use Rattle.indexed_heap.specs.Entries.{AreSound, Gets, InsertsWithin, IsAbsent, IsEntry, IsReached, Raises, by_item, item_of};
+ghost use Rattle.dary_heap.specs.Bounds.{RisesWithin, fix_bound, push_bound, sink_bound};
+ghost use Rattle.indexed_heap.specs.Entries.{AreSound, Gets, InsertsWithin, IsEntry, IsReached, Raises, by_item, item_of};
+ghost use Rattle.indexed_heap.specs.Storing.{Stores};
 
 use super::IndexedHeap;
-use crate::judge::ByItem;
-use crate::table::{add_entry, lower_entry, place_of, raise_entry, replace_entry};
 use dary_heap::sift::Judge;
 
 impl<T, const D: usize, J: Judge<T>> IndexedHeap<T, D, J> {
@@ -43,32 +43,15 @@ impl<T, const D: usize, J: Judge<T>> IndexedHeap<T, D, J> {
         ensures counted { OnOk result (InsertsWithin D key self.old.entries self.old.comparisons
             self.new.comparisons) }
         ensures sound { AreSound J.order D self.new.entries }
-        ensures capacity { self.old.capacity ≤ self.new.capacity }
-        ensures keys { self.old.keys ≤ self.new.keys }
-        ensures kept { length self.old.entries < self.old.capacity
-            → self.new.capacity ≡ self.old.capacity }
-        ensures keyed { key < self.old.keys → self.new.keys ≡ self.old.keys }
-        ensures widened { OnOk result (self.new.keys ≡ max self.old.keys (key + 1)) }
-        ensures same_keys { OnErr result (self.new.keys ≡ self.old.keys) }
-
-        // It can't fail if there is room, or the key has an item.
-        ensures succeeds { length self.old.entries < self.old.capacity → key < self.old.keys
-            → IsOk result }
-        ensures present { (at : ℕ) → IsEntry self.old.entries at key → IsOk result }
-        ensures roomy { (at : ℕ) → IsEntry self.old.entries at key
-            → self.new.capacity ≡ self.old.capacity }
-        ensures full { OnErr result (IsAbsent key self.old.entries
-            × ((length self.old.entries ≡ self.old.capacity) ⊎ (self.old.keys ≤ key))) }
-        ensures returned { IfErr result (λ back. back ≡ item) }
-        ensures unchanged { OnErr result (self.new.entries ≡ self.old.entries) }
-        ensures uncounted { OnErr result (self.new.comparisons ≡ self.old.comparisons) }
+        ensures stores { Stores key item self.old self.new result }
     {
-        let Some(at) = place_of(self.entries.as_slice(), self.places.as_slice(), key) else {
-            add_entry::<T, ByItem<J>, D>(&mut self.entries, &mut self.places, key, item)?;
-            return Ok(None);
+        let Some(at) = self.place_of(key) else {
+            return match self.add(key, item) {
+                Ok(()) => Ok(None),
+                Err(item) => Err(item),
+            };
         };
-        let places = self.places.as_mut_slice();
-        Ok(Some(replace_entry::<T, ByItem<J>, D>(&mut self.entries, places, at, key, item)))
+        Ok(Some(self.replace(at, key, item)))
     }
 
     /// Gives a key an item, unless it has one that is at least as great. Returns `true` if the key has the new item.
@@ -78,7 +61,7 @@ impl<T, const D: usize, J: Judge<T>> IndexedHeap<T, D, J> {
     /// the other way.
     ///
     /// The call takes at most one comparison more than an [`insert`](IndexedHeap::insert) of a key without an item. If it
-    /// returns `false`, the new item is dropped, and nothing changes but the count.
+    /// returns `false`, it took one comparison, the new item is dropped, and nothing changes but the count.
     ///
     /// # Errors
     ///
@@ -106,39 +89,23 @@ impl<T, const D: usize, J: Judge<T>> IndexedHeap<T, D, J> {
             + (if is_some (item_of key self.old.entries) then 0 else 1)) }
         ensures counted { OnOk result (RisesWithin self.old.comparisons self.new.comparisons
             (push_bound D (length self.old.entries) + 1)) }
+        ensures once { IfOk result (λ b. OnFalse b (RisesWithin self.old.comparisons self.new.comparisons 1)) }
         ensures sound { AreSound J.order D self.new.entries }
-        ensures capacity { self.old.capacity ≤ self.new.capacity }
-        ensures keys { self.old.keys ≤ self.new.keys }
-        ensures kept { length self.old.entries < self.old.capacity
-            → self.new.capacity ≡ self.old.capacity }
-        ensures keyed { key < self.old.keys → self.new.keys ≡ self.old.keys }
-        ensures widened { OnOk result (self.new.keys ≡ max self.old.keys (key + 1)) }
-        ensures same_keys { OnErr result (self.new.keys ≡ self.old.keys) }
-
-        // It can't fail if there is room, or the key has an item.
-        ensures succeeds { length self.old.entries < self.old.capacity → key < self.old.keys
-            → IsOk result }
-        ensures present { (at : ℕ) → IsEntry self.old.entries at key → IsOk result }
-        ensures roomy { (at : ℕ) → IsEntry self.old.entries at key
-            → self.new.capacity ≡ self.old.capacity }
-        ensures full { OnErr result (IsAbsent key self.old.entries
-            × ((length self.old.entries ≡ self.old.capacity) ⊎ (self.old.keys ≤ key))) }
-        ensures returned { IfErr result (λ back. back ≡ item) }
-        ensures unchanged { OnErr result (self.new.entries ≡ self.old.entries) }
-        ensures uncounted { OnErr result (self.new.comparisons ≡ self.old.comparisons) }
+        ensures stores { Stores key item self.old self.new result }
     {
-        let Some(at) = place_of(self.entries.as_slice(), self.places.as_slice(), key) else {
-            add_entry::<T, ByItem<J>, D>(&mut self.entries, &mut self.places, key, item)?;
-            return Ok(true);
+        let Some(at) = self.place_of(key) else {
+            return match self.add(key, item) {
+                Ok(()) => Ok(true),
+                Err(item) => Err(item),
+            };
         };
-        let places = self.places.as_mut_slice();
-        Ok(raise_entry::<T, ByItem<J>, D>(&mut self.entries, places, at, key, item))
+        Ok(self.raise_at(at, key, item))
     }
 
     /// Gives a key an item, unless it has one that is at most as great. Returns `true` if the key has the new item.
     ///
-    /// The call takes at most `D` comparisons for each level of the tree, and one more. If it returns `false`, the new item
-    /// is dropped, and nothing changes but the count.
+    /// The call takes at most `D` comparisons for each level of the tree, and one more. If it returns `false`, it took one
+    /// comparison, the new item is dropped, and nothing changes but the count.
     ///
     /// # Errors
     ///
@@ -165,32 +132,62 @@ impl<T, const D: usize, J: Judge<T>> IndexedHeap<T, D, J> {
             + (if is_some (item_of key self.old.entries) then 0 else 1)) }
         ensures counted { OnOk result (RisesWithin self.old.comparisons self.new.comparisons
             (sink_bound D (length self.old.entries) + 1)) }
+        ensures once { IfOk result (λ b. OnFalse b (RisesWithin self.old.comparisons self.new.comparisons 1)) }
         ensures sound { AreSound J.order D self.new.entries }
-        ensures capacity { self.old.capacity ≤ self.new.capacity }
-        ensures keys { self.old.keys ≤ self.new.keys }
-        ensures kept { length self.old.entries < self.old.capacity
-            → self.new.capacity ≡ self.old.capacity }
-        ensures keyed { key < self.old.keys → self.new.keys ≡ self.old.keys }
-        ensures widened { OnOk result (self.new.keys ≡ max self.old.keys (key + 1)) }
-        ensures same_keys { OnErr result (self.new.keys ≡ self.old.keys) }
-
-        // It can't fail if there is room, or the key has an item.
-        ensures succeeds { length self.old.entries < self.old.capacity → key < self.old.keys
-            → IsOk result }
-        ensures present { (at : ℕ) → IsEntry self.old.entries at key → IsOk result }
-        ensures roomy { (at : ℕ) → IsEntry self.old.entries at key
-            → self.new.capacity ≡ self.old.capacity }
-        ensures full { OnErr result (IsAbsent key self.old.entries
-            × ((length self.old.entries ≡ self.old.capacity) ⊎ (self.old.keys ≤ key))) }
-        ensures returned { IfErr result (λ back. back ≡ item) }
-        ensures unchanged { OnErr result (self.new.entries ≡ self.old.entries) }
-        ensures uncounted { OnErr result (self.new.comparisons ≡ self.old.comparisons) }
+        ensures stores { Stores key item self.old self.new result }
     {
-        let Some(at) = place_of(self.entries.as_slice(), self.places.as_slice(), key) else {
-            add_entry::<T, ByItem<J>, D>(&mut self.entries, &mut self.places, key, item)?;
-            return Ok(true);
+        let Some(at) = self.place_of(key) else {
+            return match self.add(key, item) {
+                Ok(()) => Ok(true),
+                Err(item) => Err(item),
+            };
         };
-        let places = self.places.as_mut_slice();
-        Ok(lower_entry::<T, ByItem<J>, D>(&mut self.entries, places, at, key, item))
+        Ok(self.lower_at(at, key, item))
+    }
+
+    /// Puts what a function makes of the item of a key in its place. Returns the item that the key had, or `None` if it
+    /// has none; then the function isn't called, and nothing changes.
+    ///
+    /// No other entry changes, and no room is used, so the call doesn't fail. It looks the key up once, and takes at most as
+    /// many comparisons as the place of the key's entry is deep, and `D` for each level from there down to that of the last
+    /// place, which is *O*(log *n*) from arity 2 on.
+    ///
+    /// # Preconditions
+    ///
+    /// - If the key has an item, `f` may be called on it.
+    ///
+    /// # Examples
+    ///
+    /// ```
+    /// use indexed_heap::IndexedHeap;
+    /// let mut visits = IndexedHeap::<_, 4>::new(alloc);
+    /// visits.insert(3, 1)?;
+    /// visits.insert(8, 2)?;
+    /// assert_eq!(rt; visits.change(3, |count| count + 5), Some(1));
+    /// assert_eq!(rt; visits.change(5, |count| count + 5), None);
+    /// assert_eq!(rt; visits.pop(), Some((3, 6)));
+    /// ```
+    pub fn change<F: FnOnce(&T) -> T>(&mut self, key: usize, f: F) -> Option<T>
+        requires { (item : T) → item_of key self.old.entries ≡ Some item
+            → FnOnceTakesAt F.FnOnce f item }
+        ensures given { result ≡ item_of key self.old.entries }
+        ensures gets { IfSome result (λ given. (item : T) × FnOnceReturnsAt F.FnOnce f given item
+            × Gets key item self.old.entries (Some given) self.new.entries) }
+        ensures len { length self.new.entries ≡ length self.old.entries }
+        ensures counted { (at : ℕ) → IsEntry self.old.entries at key
+            → RisesWithin self.old.comparisons self.new.comparisons
+            (fix_bound D (length self.old.entries) at) }
+        ensures sound { AreSound J.order D self.new.entries }
+        ensures capacity { self.new.capacity ≡ self.old.capacity }
+        ensures keys { self.new.keys ≡ self.old.keys }
+
+        // If the key has no item nothing changes.
+        ensures unchanged { IfNone result (self.new ≡ self.old) }
+    {
+        let Some(at) = self.place_of(key) else {
+            return None;
+        };
+        let made = f(&self.as_slice()[at].1);
+        Some(self.replace(at, key, made))
     }
 }

@@ -6,8 +6,8 @@ ghost use Rattle.indexed_heap.specs.Making.{IsNew};
 ghost use Rattle.indexed_heap.specs.Showing.{debug_entry};
 
 use super::IndexedHeap;
+use super::table::write_places;
 use crate::judge::ByItem;
-use crate::table::write_places;
 use dary_heap::DaryHeap;
 use dary_heap::sift::{ByOrd, Judge};
 use std::alloc::{AllocError, Global};

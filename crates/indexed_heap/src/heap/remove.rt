@@ -8,8 +8,7 @@ ghost use Rattle.indexed_heap.specs.Filtering.{CalledAtEntry};
 ghost use Rattle.indexed_heap.specs.Iterating.{contents};
 
 use super::IndexedHeap;
-use crate::judge::ByItem;
-use crate::table::{place_of, retain_entries, take_out};
+use super::table::write_places;
 use dary_heap::sift::Judge;
 
 impl<T, const D: usize, J: Judge<T>> IndexedHeap<T, D, J> {
@@ -46,15 +45,10 @@ impl<T, const D: usize, J: Judge<T>> IndexedHeap<T, D, J> {
         // If the key has no item nothing changes.
         ensures unchanged { IfNone result (self.new ≡ self.old) }
     {
-        let Some(at) = place_of(self.entries.as_slice(), self.places.as_slice(), key) else {
+        let Some(at) = self.place_of(key) else {
             return None;
         };
-        let (_, item) = take_out::<T, ByItem<J>, D>(
-            &mut self.entries,
-            self.places.as_mut_slice(),
-            at,
-        );
-        Some(item)
+        Some(self.take_out(at).1)
     }
 
     /// Removes an entry with a greatest item and returns it, or returns `None` if there are no entries.
@@ -93,10 +87,10 @@ impl<T, const D: usize, J: Judge<T>> IndexedHeap<T, D, J> {
         // If there is no entry nothing changes.
         ensures unchanged { IfNone result (self.new ≡ self.old) }
     {
-        if self.entries.is_empty() {
+        if self.is_empty() {
             return None;
         }
-        Some(take_out::<T, ByItem<J>, D>(&mut self.entries, self.places.as_mut_slice(), 0))
+        Some(self.take_out(0))
     }
 
     /// Removes an entry with a greatest item and returns it, if the predicate returns `true` for its key and its item.
@@ -174,7 +168,7 @@ impl<T, const D: usize, J: Judge<T>> IndexedHeap<T, D, J> {
     /// assert_eq!(rt; timers.as_slice(), [(3, 50)].as_slice());
     /// assert_eq!(rt; timers.get(8), None);
     /// ```
-    pub fn retain<F: FnMut(usize, &T) -> bool>(&mut self, f: F)
+    pub fn retain<F: FnMut(usize, &T) -> bool>(&mut self, mut f: F)
     where
         T: Drop,
         requires { F.IsAlwaysCallable f }
@@ -185,8 +179,13 @@ impl<T, const D: usize, J: Judge<T>> IndexedHeap<T, D, J> {
         ensures capacity { self.new.capacity ≡ self.old.capacity }
         ensures sound { AreSound J.order D self.new.entries }
     {
-        let places = self.places.as_mut_slice();
-        retain_entries::<T, ByItem<J>, F, D>(&mut self.entries, places, f);
+        self.entries.retain(
+            |entry: &(usize, T)| -> bool
+                requires { F.IsAlwaysCallable f }
+                ensures { CalledAtEntry F.FnMut f.entry entry.now result f.exit }
+            { f(entry.0, &entry.1) },
+        );
+        write_places(self.entries.as_slice(), self.places.as_mut_slice());
     }
 
     /// Drops all entries. No room is given back.

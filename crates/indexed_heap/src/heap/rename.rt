@@ -4,8 +4,6 @@ ghost use Rattle.indexed_heap.specs.Entries.{AreSound, IsAbsent};
 ghost use Rattle.indexed_heap.specs.Renaming.{rekeyed};
 
 use super::IndexedHeap;
-use crate::judge::ByItem;
-use crate::table::{place_of, rekey};
 use dary_heap::sift::Judge;
 
 impl<T, const D: usize, J: Judge<T>> IndexedHeap<T, D, J> {
@@ -42,9 +40,10 @@ impl<T, const D: usize, J: Judge<T>> IndexedHeap<T, D, J> {
         ensures keys { self.new.keys ≡ self.old.keys }
         ensures uncounted { self.new.comparisons ≡ self.old.comparisons }
     {
-        let Some(at) = place_of(self.entries.as_slice(), self.places.as_slice(), key) else {
+        let Some(at) = self.place_of(key) else {
             return;
         };
-        rekey::<T, ByItem<J>, D>(&mut self.entries, self.places.as_mut_slice(), at, to);
+        self.entries.replace_key_at(at, to);
+        self.places[to] = at;
     }
 }

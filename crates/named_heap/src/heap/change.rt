@@ -3,11 +3,12 @@ ghost use Rattle.std.specs.Prelude.{◌≡◌, ◌≢◌, ℕ, ◌+◌, ◌<◌,
 ghost use Rattle.std.specs.Bool.{OnTrue, OnFalse};
 ghost use Rattle.std.specs.Fn.{FnOnceReturnsAt, FnOnceTakesAt};
 ghost use Rattle.std.specs.Map.{lookup};
-ghost use Rattle.dary_heap.specs.Bounds.{RisesWithin, fix_bound, push_bound};
+ghost use Rattle.std.specs.Ordering.{flip_args};
+ghost use Rattle.dary_heap.specs.Bounds.{RisesWithin, fix_bound, push_bound, sink_bound};
 ghost use Rattle.named_heap.specs.Entries.{AreSound, Changes, Gets, InsertsWithin, IsReached, Raises};
 
 use super::NamedHeap;
-use crate::names::{last, number};
+use crate::names::number;
 use dary_heap::sift::Judge;
 use indexmap::Equivalent;
 use std::hash::{BuildHasher, Hash};
@@ -16,7 +17,8 @@ impl<K: Eq + Hash + Drop, T, const D: usize, J: Judge<T>, S: BuildHasher> NamedH
     /// Gives a name an item. Returns the item that the name had, or `None` if it had none. If an equal name is there, it
     /// stays, and the new one is dropped.
     ///
-    /// No other entry changes. The call uses at most one place of the [`room`](NamedHeap::room).
+    /// No other entry changes. The call uses at most one place of the [`room`](NamedHeap::room), and none for a name that has
+    /// an item.
     ///
     /// For a name without an item the call takes at most as many comparisons as the new place is deep. Otherwise it takes
     /// at most as many as the place of the name's entry is deep, and `D` for each level from there down to that of the
@@ -48,6 +50,7 @@ impl<K: Eq + Hash + Drop, T, const D: usize, J: Judge<T>, S: BuildHasher> NamedH
             self.new.comparisons) }
         ensures sound { AreSound K.eq J.order D self.new.entries }
         ensures room { self.old.room ≤ self.new.room + 1 }
+        ensures roomy { IsSome (lookup (K.eq name) self.old.entries) → self.new.room ≡ self.old.room }
 
         // It can't fail if there is room, or the name has an item.
         ensures succeeds { 0 < self.old.room → IsOk result }
@@ -56,13 +59,14 @@ impl<K: Eq + Hash + Drop, T, const D: usize, J: Judge<T>, S: BuildHasher> NamedH
         ensures unchanged { OnErr result (self.new.entries ≡ self.old.entries) }
         ensures uncounted { OnErr result (self.new.comparisons ≡ self.old.comparisons) }
     {
-        let key = match number(&mut self.names, name) {
+        let key = match number(&mut self.names, &mut self.heap, name) {
             Ok(key) => key,
             Err(name) => return Err((name, item)),
         };
         match self.heap.insert(key, item) {
             Ok(given) => Ok(given),
-            Err(item) => Err((last(&mut self.names), item)),
+            // The name has an item, or there is room for it.
+            Err(_) => unreachable!(),
         }
     }
 
@@ -70,8 +74,8 @@ impl<K: Eq + Hash + Drop, T, const D: usize, J: Judge<T>, S: BuildHasher> NamedH
     ///
     /// This is *increase-key*. In a heap whose items come out least first, by `LeastFirst` or in `Reverse`, it is
     /// *decrease-key*: it lowers what a name has, as a search for shortest paths does. The call takes at most one comparison
-    /// more than an [`insert`](NamedHeap::insert) of a name without an item. If it returns `false`, the new item is dropped,
-    /// and nothing changes but the count.
+    /// more than an [`insert`](NamedHeap::insert) of a name without an item. If it returns `false`, it took one comparison, the
+    /// new item is dropped, and nothing changes but the count. [`lower`](NamedHeap::lower) goes the other way.
     ///
     /// # Errors
     ///
@@ -99,8 +103,10 @@ impl<K: Eq + Hash + Drop, T, const D: usize, J: Judge<T>, S: BuildHasher> NamedH
             + (if is_some (lookup (K.eq name) self.old.entries) then 0 else 1)) }
         ensures counted { OnOk result (RisesWithin self.old.comparisons self.new.comparisons
             (push_bound D (length self.old.entries) + 1)) }
+        ensures once { IfOk result (λ b. OnFalse b (RisesWithin self.old.comparisons self.new.comparisons 1)) }
         ensures sound { AreSound K.eq J.order D self.new.entries }
         ensures room { self.old.room ≤ self.new.room + 1 }
+        ensures roomy { IsSome (lookup (K.eq name) self.old.entries) → self.new.room ≡ self.old.room }
 
         // It can't fail if there is room, or the name has an item.
         ensures succeeds { 0 < self.old.room → IsOk result }
@@ -109,13 +115,67 @@ impl<K: Eq + Hash + Drop, T, const D: usize, J: Judge<T>, S: BuildHasher> NamedH
         ensures unchanged { OnErr result (self.new.entries ≡ self.old.entries) }
         ensures uncounted { OnErr result (self.new.comparisons ≡ self.old.comparisons) }
     {
-        let key = match number(&mut self.names, name) {
+        let key = match number(&mut self.names, &mut self.heap, name) {
             Ok(key) => key,
             Err(name) => return Err((name, item)),
         };
         match self.heap.raise(key, item) {
             Ok(raised) => Ok(raised),
-            Err(item) => Err((last(&mut self.names), item)),
+            // The name has an item, or there is room for it.
+            Err(_) => unreachable!(),
+        }
+    }
+
+    /// Gives a name an item, unless it has one that is at most as great. Returns `true` if the name has the new item.
+    ///
+    /// The call takes at most `D` comparisons for each level of the tree, and one more. If it returns `false`, it took one
+    /// comparison, the new item is dropped, and nothing changes but the count.
+    ///
+    /// # Errors
+    ///
+    /// As [`insert`](NamedHeap::insert).
+    ///
+    /// # Examples
+    ///
+    /// ```
+    /// use named_heap::NamedHeap;
+    /// let mut jobs = NamedHeap::<_, _, 4>::new(alloc);
+    /// assert_eq!(rt; jobs.lower("wash", 10), Ok(true));
+    /// assert_eq!(rt; jobs.lower("wash", 12), Ok(false));
+    /// assert_eq!(rt; jobs.lower("wash", 4), Ok(true));
+    /// assert_eq!(rt; jobs.pop(), Some(("wash", 4)));
+    /// ```
+    pub fn lower(&mut self, name: K, item: T) -> Result<bool, (K, T)>
+    where
+        T: Drop,
+        ensures lowered { IfOk result (λ b. OnTrue b
+            (Raises K.eq name (flip_args J.order) item self.old.entries self.new.entries)) }
+        ensures reached { IfOk result (λ b. OnFalse b (IsReached K.eq name (flip_args J.order) item self.old.entries
+            × (self.new.entries ≡ self.old.entries))) }
+        ensures len { OnOk result (length self.new.entries ≡ length self.old.entries
+            + (if is_some (lookup (K.eq name) self.old.entries) then 0 else 1)) }
+        ensures counted { OnOk result (RisesWithin self.old.comparisons self.new.comparisons
+            (sink_bound D (length self.old.entries) + 1)) }
+        ensures once { IfOk result (λ b. OnFalse b (RisesWithin self.old.comparisons self.new.comparisons 1)) }
+        ensures sound { AreSound K.eq J.order D self.new.entries }
+        ensures room { self.old.room ≤ self.new.room + 1 }
+        ensures roomy { IsSome (lookup (K.eq name) self.old.entries) → self.new.room ≡ self.old.room }
+
+        // It can't fail if there is room, or the name has an item.
+        ensures succeeds { 0 < self.old.room → IsOk result }
+        ensures present { IsSome (lookup (K.eq name) self.old.entries) → IsOk result }
+        ensures returned { IfErr result (λ back. back ≡ (name, item)) }
+        ensures unchanged { OnErr result (self.new.entries ≡ self.old.entries) }
+        ensures uncounted { OnErr result (self.new.comparisons ≡ self.old.comparisons) }
+    {
+        let key = match number(&mut self.names, &mut self.heap, name) {
+            Ok(key) => key,
+            Err(name) => return Err((name, item)),
+        };
+        match self.heap.lower(key, item) {
+            Ok(lowered) => Ok(lowered),
+            // The name has an item, or there is room for it.
+            Err(_) => unreachable!(),
         }
     }
 }
@@ -160,11 +220,9 @@ impl<K: Eq + Hash, T, const D: usize, J: Judge<T>, S: BuildHasher> NamedHeap<K, 
         // If the name has no item nothing changes.
         ensures unchanged { IfNone result (self.new ≡ self.old) }
     {
-        let key = self.names.get_index_of(name)?;
-        let made = f(self.heap.get(key)?);
-        match self.heap.insert(key, made) {
-            Ok(given) => given,
-            Err(_) => unreachable!(),
-        }
+        let Some(key) = self.names.get_index_of(name) else {
+            return None;
+        };
+        self.heap.change(key, f)
     }
 }

@@ -5,8 +5,8 @@ use Rattle.indexed_heap.proofs.shortest_path.wait_at.Goals as goal
 
 pub unreachable-requires : goal.unreachable-requires
 unreachable-requires g c = elim (has_room c.requires.ready c.args.node c.requires.within) [
-  | inl there ↦ true≢false (sym (c.in_default.ensures.present there.0 there.1))
-  | inr room ↦ true≢false (sym (c.in_default.ensures.succeeds room (omega (arith, c.requires.within, c.requires.ready.keyed))))
+  | inl there ↦ true≢false (sym (c.in_default.ensures.stores.present there.0 there.1))
+  | inr room ↦ true≢false (sym (c.in_default.ensures.stores.succeeds room (omega (arith, c.requires.within, c.requires.ready.keyed))))
 ]
 
 pub returns-clause-waits : goal.returns-clause-waits
@@ -17,17 +17,17 @@ returns-clause-waits g c =
 pub returns-clause-ready : goal.returns-clause-ready
 returns-clause-ready g c =
     let done = c.in-Ok.ensures in
-    stays_ready c.requires.ready c.requires.within (returns-clause-waits g c) done.sound.distinct done.capacity done.keys
+    stays_ready c.requires.ready c.requires.within (returns-clause-waits g c) done.sound.distinct done.stores.capacity done.stores.keys
 
 pub returns-clause-room : goal.returns-clause-room
 returns-clause-room g c =
     let done = c.in-Ok.ensures in
     record {
       capacity = elim (has_room c.requires.ready c.args.node c.requires.within) [
-        | inl there ↦ done.roomy there.0 there.1
-        | inr room ↦ done.kept room
+        | inl there ↦ done.stores.roomy there.0 there.1
+        | inr room ↦ done.stores.kept room
       ];
-      keys = done.keyed (omega (arith, c.requires.within, c.requires.ready.keyed));
+      keys = done.stores.keyed (omega (arith, c.requires.within, c.requires.ready.keyed));
     }
 
 pub returns-clause-counted : goal.returns-clause-counted

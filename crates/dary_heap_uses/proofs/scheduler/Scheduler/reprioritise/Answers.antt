@@ -14,7 +14,7 @@ returns-clause-changed g c =
     rw (← c.self.view_is) record { was = c.in-Some.waiting; others = c.remove.new.self.entries; before = taken.loses.bag; after = (rw none at c.in-Ok.ensures.gets).bag }
 
 pub returns-clause-room : goal.returns-clause-room
-returns-clause-room g c = c.in-Ok.ensures.kept c.in-Some.ensures.leaves_room.0 ∙ c.remove.ensures.capacity ∙ ap (λ s. s.room) c.self.view_is
+returns-clause-room g c = c.in-Ok.ensures.stores.kept c.in-Some.ensures.leaves_room.0 ∙ c.remove.ensures.capacity ∙ ap (λ s. s.room) c.self.view_is
 
 pub returns-clause-ids : goal.returns-clause-ids
-returns-clause-ids g c = c.in-Ok.ensures.keyed c.in-Some.ensures.leaves_room.1 ∙ c.remove.ensures.keys ∙ ap (λ s. s.ids) c.self.view_is
+returns-clause-ids g c = c.in-Ok.ensures.stores.keyed c.in-Some.ensures.leaves_room.1 ∙ c.remove.ensures.keys ∙ ap (λ s. s.ids) c.self.view_is

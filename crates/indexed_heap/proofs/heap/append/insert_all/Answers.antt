@@ -20,7 +20,7 @@ step g c =
     let none = taken.ensures.last (omega (arith, shorter)) in
     let room : length now.entries < now.capacity = omega (arith, so_far.long, so_far.capacity, c.requires.room, inside) in
     let keyed : entry.0 < now.keys = omega (arith, c.requires.keyed last entry.0 (record { entry = entry; there = stood; has = refl }), so_far.keys) in
-    let ok = c.insert.ensures.succeeds room keyed in
+    let ok = c.insert.ensures.stores.succeeds room keyed in
     let given = if_ok (λ given. Gets entry.0 entry.1 now.entries given c.insert.new.self.entries) c.insert.result ok c.insert.ensures.gets in
     let long = if_ok (λ given. length c.insert.new.self.entries ≡ length now.entries + (if is_some given then 0 else 1)) c.insert.result ok c.insert.ensures.len in
     let inside_old : last < length old = omega (arith, inside, so_far.fewer) in
@@ -39,8 +39,8 @@ step g c =
           (joins_one entry (drop (length left) old) c.args.heap.now.entries now.entries c.insert.new.self.entries given.0 so_far.joined given.1 c.insert.ensures.sound.distinct);
       sound = c.insert.ensures.sound;
       long = omega (arith, long.1, at_most_one (is_some long.0), so_far.long, shorter, inside, next);
-      capacity = c.insert.ensures.kept room ∙ so_far.capacity;
-      keys = c.insert.ensures.keyed keyed ∙ so_far.keys;
+      capacity = c.insert.ensures.stores.kept room ∙ so_far.capacity;
+      keys = c.insert.ensures.stores.keyed keyed ∙ so_far.keys;
       counted = subst (λ (k : ℕ). RisesWithin c.args.heap.now.comparisons c.insert.new.self.comparisons (k * (sink_bound g.row.D m + 1))) more counted;
       uncounted = none.2 ∙ so_far.uncounted;
       same_capacity = taken.ensures.capacity ∙ so_far.same_capacity;

@@ -1,70 +1,77 @@
-use Rattle.std.proofs.Common.{◌≡◌, arith, refl, rules, sym, ◌∙◌, Some}
-use Rattle.named_heap.proofs.Changing.{change_named, changed, changed_others, changed_within, entry_there, had, length_changed}
+use Rattle.std.proofs.Common.{◌≡◌, rules, sym, ◌∙◌, Some}
+use Rattle.std.specs.Fn.{FnOnceReturnsAt}
+use Rattle.indexed_heap.specs.Entries as idx
+use Rattle.indexed_heap.specs.Entries.{item_of}
+use Rattle.named_heap.proofs.Changing.{change_named, changed, changed_others, changed_within, had, item_there}
 use Rattle.named_heap.proofs.Naming.{lookup_missing, sound_of}
+use Rattle.named_heap.proofs.heap.NamedHeap.change.Goals.{After-change}
+use Rattle.named_heap.proofs.heap.NamedHeap.change.Given.{Over}
 use Rattle.named_heap.proofs.heap.NamedHeap.change.Goals as goal
 
-pub returns-in_err-key-clause-given : goal.returns-in_err-key-clause-given
-returns-in_err-key-clause-given g c =
-    rw c.from_residual.ensures (rw (← c.self.view_is) (sym (lookup_missing c.self.inside.names.keys c.self.inside.heap.entries c.self.invariant g.met.K.Eq.laws
-    (g.Q.Equivalent.equivalent c.args.name) (sym c.in_err-key.ensures.found))))
+pub returns-in_default-clause-given : goal.returns-in_default-clause-given
+returns-in_default-clause-given g c =
+    rw (← c.self.view_is) (sym (lookup_missing c.self.inside.names.keys c.self.inside.heap.entries c.self.invariant g.met.K.Eq.laws (g.Q.Equivalent.equivalent c.args.name)
+    (sym c.in_default.ensures.found)))
 
-pub returns-in_err-key-clause-sound : goal.returns-in_err-key-clause-sound
-returns-in_err-key-clause-sound g c = rw (← c.self.view_is) (sound_of c.self.inside.names.keys c.self.inside.heap.entries c.self.invariant g.met.K.Eq.laws)
+pub returns-in_default-clause-sound : goal.returns-in_default-clause-sound
+returns-in_default-clause-sound g c = rw (← c.self.view_is) (sound_of c.self.inside.names.keys c.self.inside.heap.entries c.self.invariant g.met.K.Eq.laws)
 
-pub f-made-requires : goal.f-made-requires
-f-made-requires g c =
+pub change-requires : goal.change-requires
+change-requires g c =
     let has = had g.met.K.Eq.laws (g.Q.Equivalent.equivalent c.args.name) (g.met.Q.Equivalent.respects_eq c.args.name) c.self.inside.names.keys c.self.inside.heap.entries c.self.invariant
-    c.in_ok-key.key (sym c.in_ok-key.ensures.index) in
-    let may = c.requires c.in_ok-get.field-0.now (rw (← c.self.view_is) (has ∙ sym c.in_ok-get.ensures.map)) c.in_ok-get.field-0 refl in
+    c.in-Some.key (sym c.in-Some.ensures.index) in
+    let may = λ (item : g.row.T.Denot) (is : item_of c.in-Some.key c.self.inside.heap.entries ≡ Some item). c.requires item (rw (← c.self.view_is) (has ∙ is)) in
     search (rules, may)
 
-pub unreachable-requires : goal.unreachable-requires
-unreachable-requires g c =
-    let there = entry_there g.met.K.Eq.laws (g.Q.Equivalent.equivalent c.args.name) (g.met.Q.Equivalent.respects_eq c.args.name) c.self.inside.names.keys c.self.inside.heap.entries
-    c.self.invariant c.in_ok-key.key (sym c.in_ok-key.ensures.index) in
-    let fine = c.in-Err.ensures.present there.0 there.1 in
-    search (rules, fine)
+-- the item that the name had, and what the function made of it
+record IsMade (g : Over) (c : After-change g) : Type 0 where
+  had_item : g.row.T.Denot
+  is : c.change.result ≡ Some had_item
+  item : g.row.T.Denot
+  returned : FnOnceReturnsAt g.F.FnOnce c.args.f had_item item
+  gets : idx.Gets c.in-Some.key item c.self.inside.heap.entries (Some had_item) c.change.new.self.entries
+
+made : (g : Over) (c : After-change g) → IsMade g c
+made g c =
+    let there = item_there g.met.K.Eq.laws (g.Q.Equivalent.equivalent c.args.name) (g.met.Q.Equivalent.respects_eq c.args.name) c.self.inside.names.keys c.self.inside.heap.entries c.self.invariant
+    c.in-Some.key (sym c.in-Some.ensures.index) in
+    let is : c.change.result ≡ Some there.0 = c.change.ensures.given ∙ there.1 in
+    let told = rw is at c.change.ensures.gets in
+    record { had_item = there.0; is = is; item = told.0; returned = told.1; gets = told.2 }
 
 pub invariant_of-self : goal.invariant_of-self
-invariant_of-self g c = change_named g.met.K.Eq.laws (g.Q.Equivalent.equivalent c.args.name) (g.met.Q.Equivalent.respects_eq c.args.name) c.self.inside.names.keys c.self.inside.heap.entries
-    c.self.invariant c.in_ok-key.key (sym c.in_ok-key.ensures.index)
-    c.f-made.result c.insert.new.self.entries c.insert.ensures.sound c.in-Ok.given c.in-Ok.ensures.gets
+invariant_of-self g c =
+    let m = made g (goal.at.invariant_of-self g c).After-change in
+    change_named g.met.K.Eq.laws (g.Q.Equivalent.equivalent c.args.name) (g.met.Q.Equivalent.respects_eq c.args.name) c.self.inside.names.keys c.self.inside.heap.entries c.self.invariant
+    c.in-Some.key (sym c.in-Some.ensures.index) m.item c.change.new.self.entries c.change.ensures.sound (Some m.had_item) m.gets
 
 pub returns-clause-given : goal.returns-clause-given
 returns-clause-given g c =
     let has = had g.met.K.Eq.laws (g.Q.Equivalent.equivalent c.args.name) (g.met.Q.Equivalent.respects_eq c.args.name) c.self.inside.names.keys c.self.inside.heap.entries c.self.invariant
-    c.in_ok-key.key (sym c.in_ok-key.ensures.index) in
-    rw (← c.self.view_is) (c.in-Ok.ensures.given ∙ sym has)
+    c.in-Some.key (sym c.in-Some.ensures.index) in
+    rw (← c.self.view_is) (c.change.ensures.given ∙ sym has)
 
 pub returns-clause-changes : goal.returns-clause-changes
 returns-clause-changes g c =
-    let is : c.in-Ok.given ≡ Some c.in_ok-get.field-0.now = c.in-Ok.ensures.given ∙ sym c.in_ok-get.ensures.map in
+    let m = made g (goal.at.returns-clause-changes g c).After-change in
     let changes = changed g.met.K.Eq.laws (g.Q.Equivalent.equivalent c.args.name) (g.met.Q.Equivalent.respects_eq c.args.name) c.self.inside.names.keys c.self.inside.heap.entries c.self.invariant
-    c.in_ok-key.key (sym c.in_ok-key.ensures.index)
-    c.f-made.result c.insert.new.self.entries c.insert.ensures.sound c.in-Ok.given c.in-Ok.ensures.gets in
-    rw (← c.self.view_is) (rw is (c.f-made.result, (c.in_ok-get.field-0, c.f-made.ensures, refl), rw is at changes))
+    c.in-Some.key (sym c.in-Some.ensures.index) m.item c.change.new.self.entries c.change.ensures.sound m.had_item m.gets in
+    rw (← c.self.view_is) (rw m.is (m.item, m.returned, changes))
 
 pub returns-clause-others : goal.returns-clause-others
 returns-clause-others g c =
-    let others = changed_others g.met.K.Eq.laws (g.Q.Equivalent.equivalent c.args.name) (g.met.Q.Equivalent.respects_eq c.args.name) c.self.inside.names.keys c.self.inside.heap.entries
-    c.self.invariant c.in_ok-key.key (sym c.in_ok-key.ensures.index)
-    c.f-made.result c.insert.new.self.entries c.insert.ensures.sound c.in-Ok.given c.in-Ok.ensures.gets c.in-Ok.ensures.given in
+    let m = made g (goal.at.returns-clause-others g c).After-change in
+    let others = changed_others g.met.K.Eq.laws (g.Q.Equivalent.equivalent c.args.name)
+    (g.met.Q.Equivalent.respects_eq c.args.name) c.self.inside.names.keys c.self.inside.heap.entries c.self.invariant
+    c.in-Some.key (sym c.in-Some.ensures.index) m.item c.change.new.self.entries c.change.ensures.sound (Some m.had_item) m.gets (sym m.is ∙ c.change.ensures.given) in
     rw (← c.self.view_is) others
 
 pub returns-clause-counted : goal.returns-clause-counted
 returns-clause-counted g c =
-    let within = changed_within g.met.K.Eq.laws (g.Q.Equivalent.equivalent c.args.name) (g.met.Q.Equivalent.respects_eq c.args.name) c.self.inside.names.keys c.self.inside.heap.entries
-    c.self.invariant c.in_ok-key.key (sym c.in_ok-key.ensures.index)
-    c.self.inside.heap.comparisons c.insert.new.self.comparisons c.in-Ok.ensures.counted in
+    let within = changed_within g.met.K.Eq.laws (g.Q.Equivalent.equivalent c.args.name)
+    (g.met.Q.Equivalent.respects_eq c.args.name) c.self.inside.names.keys c.self.inside.heap.entries c.self.invariant
+    c.in-Some.key (sym c.in-Some.ensures.index) c.self.inside.heap.comparisons c.change.new.self.comparisons c.change.ensures.counted in
     rw (← c.self.view_is) within
 
 pub returns-clause-sound : goal.returns-clause-sound
-returns-clause-sound g c = sound_of c.self.inside.names.keys c.insert.new.self.entries (invariant_of-self g c) g.met.K.Eq.laws
-
-pub returns-clause-room : goal.returns-clause-room
-returns-clause-room g c =
-    let at = entry_there g.met.K.Eq.laws (g.Q.Equivalent.equivalent c.args.name) (g.met.Q.Equivalent.respects_eq c.args.name) c.self.inside.names.keys c.self.inside.heap.entries c.self.invariant
-    c.in_ok-key.key (sym c.in_ok-key.ensures.index) in
-    let long = length_changed c.in_ok-key.key c.f-made.result c.self.inside.heap.entries c.insert.new.self.entries c.in-Ok.given c.in-Ok.ensures.gets at in
-    let capacity = c.insert.ensures.roomy at.0 at.1 in let keys = c.insert.ensures.keys in
-    rw (← c.self.view_is) (omega (arith, long, capacity, keys))
+returns-clause-sound g c = sound_of c.self.inside.names.keys c.change.new.self.entries (invariant_of-self g c) g.met.K.Eq.laws

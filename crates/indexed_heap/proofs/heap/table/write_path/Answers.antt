@@ -4,7 +4,7 @@ use Rattle.dary_heap.proofs.Path.{next_above}
 use Rattle.dary_heap.proofs.Placing.{noted_last, noted_next}
 use Rattle.dary_heap.specs.Path.{IsAbove}
 use Rattle.indexed_heap.specs.Places.{AreRightOffPath, key_of}
-use Rattle.indexed_heap.proofs.table.write_path.Goals as goal
+use Rattle.indexed_heap.proofs.heap.table.write_path.Goals as goal
 
 pub loop-at-preserved : goal.loop-at-preserved
 loop-at-preserved g c =

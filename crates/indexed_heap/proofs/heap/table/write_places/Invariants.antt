@@ -1,5 +1,5 @@
 use Rattle.dary_heap.proofs.Common.{◌≡◌, ℕ, ◌<◌, Some, length, slice_get}
-use Rattle.indexed_heap.proofs.table.write_places.Given as goal
+use Rattle.indexed_heap.proofs.heap.table.write_places.Given as goal
 
 abbrev pub invariant-loop-place : goal.invariant-loop-place
 invariant-loop-place g l = record {

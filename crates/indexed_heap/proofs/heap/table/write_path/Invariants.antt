@@ -1,7 +1,7 @@
 use Rattle.dary_heap.proofs.Common.{◌<◌, length}
 use Rattle.dary_heap.specs.Path.{IsAbove}
 use Rattle.indexed_heap.specs.Places.{AreRightOffPath}
-use Rattle.indexed_heap.proofs.table.write_path.Given as goal
+use Rattle.indexed_heap.proofs.heap.table.write_path.Given as goal
 
 abbrev pub invariant-loop-at : goal.invariant-loop-at
 invariant-loop-at g l = record {
