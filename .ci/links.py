@@ -34,14 +34,13 @@ def follow_all(pages, top):
     return [follow(page, it, top) for page, it in links if not re.match(r"[a-z]+:", it)]
 
 
-def program(page):
-    """Returns the program of the section 'A program' of a page, and what it prints: its first block of `rust`, and the block of
-    `text` after it."""
-    section = page.read_text(encoding="utf-8").partition("\n## A program\n")[2].partition("\n## ")[0]
-    blocks = FENCE.findall(section)
-    if [language for language, _ in blocks[:2]] != ["rust", "text"]:
-        raise SystemExit(f"{page}: its section 'A program' hasn't a block of `rust` and one of `text`")
-    return blocks[0][1], blocks[1][1]
+def programs(page):
+    """Returns the programs of a page and what each prints: each block of `rust`, and the block of `text` after it."""
+    blocks = [it for it in FENCE.findall(page.read_text(encoding="utf-8")) if it[0] in ("rust", "text")]
+    found = [(source, printed) for (one, source), (two, printed) in zip(blocks, blocks[1:]) if (one, two) == ("rust", "text")]
+    if not found or len(found) != sum(language == "rust" for language, _ in blocks):
+        raise SystemExit(f"{page}: it has a block of `rust` without a block of `text` after it, or none at all")
+    return found
 
 
 def told(summary, *checked):

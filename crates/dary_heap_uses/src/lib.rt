@@ -8,5 +8,4 @@ pub mod greatest;
 pub mod merge;
 pub mod scheduler;
 pub mod simulation;
-pub mod tasks;
 pub mod timers;
