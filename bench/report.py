@@ -42,7 +42,7 @@ SIZES = {**dict.fromkeys(WORKLOADS, [10**3, 10**5, 10**6]), **dict.fromkeys(IN_O
 # The heaps that have an arity, those of arity 2 alone, and those whose times this heap's is divided by.
 AT_ARITIES = {"here": "this heap", "crate": "the Rust crate"}
 AT_TWO = {"rattle_std": "Rattle's std", "std": "Rust's std", "cpp": "C++"}
-BESIDE = {"crate": "crate", "rattle_std": "Rattle", "cpp": "C++"}
+BESIDE = {"std": "Rust's std", "rattle_std": "Rattle's std", "crate": "the Rust crate", "cpp": "C++", "boost": "boost"}
 # The arities of the table of times, and of the other heap that it shows.
 SHOWN = [2, 4, 8]
 BOOST = ("boost", 4)
