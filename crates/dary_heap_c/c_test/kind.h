@@ -222,10 +222,12 @@ static void LOCAL(test_at)(size_t len, enum place where) {
     CHECK(!has_guards || IS_SAME(&items[len], &guard, 1), ANY, "it writes behind the items");
 }
 
-/* Calls on so many items that the library takes its ways for long arrays: from so many bytes on, times
- * the arity, it goes down in another way. */
+/* Calls on so many items that the library takes its ways for long arrays: from 1.25 MiB times the square of the arity
+ * on, a pop goes down in another way. At arity 8 only the widest items are so many, and the others have 32 MiB. */
 static void LOCAL(test_long)(void) {
-    const size_t len = (arity << 22) / sizeof(ITEM) + 1000;
+    const bool is_widest = sizeof(ITEM) == sizeof(struct dheap_sequenced);
+    const size_t bytes = arity == 8 && !is_widest ? (size_t)1 << 25 : (arity * arity * 5) << 18;
+    const size_t len = bytes / sizeof(ITEM) + 1000;
     ITEM *const items = malloc(len * sizeof *items);
     if (items == NULL)
         abort();
