@@ -56,7 +56,7 @@ pub use Rattle.dary_heap.specs.sift.Moving.{ComesTo, Exceeds, GoesDown, GoesDown
 pub use Rattle.dary_heap.specs.Path.{GoesUp, GoesUpBy}
 pub use Rattle.dary_heap.specs.PeekMut.{loaned}
 pub use Rattle.dary_heap.specs.Popping.{GivesDescending, IsDescending, IsGivenDescending, IsPop}
-pub use Rattle.dary_heap.specs.Run.{IsServed, Runs, Serves, room, sure_after}
+pub use Rattle.dary_heap.specs.Run.{CapacitySteps, GrowsFor, IsFull, IsServed, KeepsCapacity, Runs, Serves, room, sure_after}
 pub use Rattle.dary_heap.specs.shortest_path.Searching.{AreApart, HasTooLarge, IsAlong, Relaxes, state, state_cmp}
 pub use Rattle.dary_heap.specs.sift.Sifting.{IsLastGreatest, IsOrderedButAbove, IsOrderedButBelow, IsOrderedWithin, StaysFirst}
 unfoldable pub use Rattle.dary_heap.specs.sift.Sifting.{sift_down_cost}

@@ -113,7 +113,8 @@ pub enum Reply<T: Ord, const D: usize> {
 ///
 /// If there is room for `n` items at the start, or after a [`Command::Reserve`] of `n` that was carried out, the
 /// next `n` pushes succeed if only pushes, pops, `Ask` and `Len` come between. If nothing else comes at all, there
-/// is room for the rest of them afterwards. A drain and a loan reserve room for their reply before they begin. On
+/// is room for the rest of them afterwards. Each step keeps the capacity, but for a push, an extend and a reserve
+/// without room for all, an append, a shrink, and a drain, which leaves no room. A drain and a loan reserve room for their reply before they begin. On
 /// an empty heap they never fail, nor does a drain of no items or a loan without acts.
 ///
 /// # Preconditions
@@ -285,6 +286,8 @@ fn append<T: Ord + Drop, const D: usize>(
     ensures { ServesPlain T.cmp D heap.old (machine.Append other.items)
         (read.reply result) heap.new }
 {
+    // `capacity` ensures that no heap has more items than room.
+    prove!(heap.len() <= heap.capacity() && other.len() <= other.capacity());
     match heap.append(&mut other) {
         Ok(()) => Reply::Done,
         Err(_) => Reply::AppendRefused(other),

@@ -1,6 +1,6 @@
 -- A run goes on by one command. What it asks of the caller, and the items that it brings in, are among those of all commands.
-use Rattle.dary_heap.proofs.Common.{◌≡◌, ℕ, ◌+◌, ◌≤◌, Bool, List, [], ◌∷◌, ◌++◌, length, refl, ap, arith, Ordering, charge, Contents, Command, Reply, Step, Steps, last_state, IsState, IsServed}
-use Rattle.dary_heap.proofs.Common.{◌∙◌, Runs, Serves, room, sure_after, All, Contains, sym, subst, append_assoc, All-contains, Contains-append_left}
+use Rattle.dary_heap.proofs.Common.{◌≡◌, ℕ, ◌+◌, ◌≤◌, Bool, List, [], ◌∷◌, ◌++◌, length, refl, ap, arith, Ordering, charge, Contents, Command, Reply, Step, Steps, last_state, IsState, IsServed, KeepsCapacity, IsFull, CapacitySteps}
+use Rattle.dary_heap.proofs.Common.{◌∙◌, Runs, Serves, room, sure_after, All, Contains, sym, subst, append_assoc, All-contains}
 use Rattle.dary_heap.proofs.Common.{Contains-append_right, Mut, Bor, MayCall, MayServe, items_in, zero-le, Some, slice_get, slice_get_within, get_or_from_slice_get, IsSubBag}
 use Rattle.dary_heap.proofs.Bags.{IsAmong-sub_bag, IsSubBag-append, IsSubBag-front, IsSubBag-trans}
 use Rattle.dary_heap.specs.Bounds.{charges}
@@ -24,6 +24,18 @@ module _ {T P : Type 0} (cmp : T → T → Ordering) (calls : P → T → Bool �
       ((run.0, h.0), h.1, omega (arith, h.2), (λ served one. (served.0, h.3 served.1 one)), h.4)
   more sure old new commands replies states command reply run step = absurd run
 
+  -- and what it makes of the capacity
+  more_capacity : (old new : List T) (from mid to : ℕ) (commands : List (Command T P)) (replies : List (Reply T)) (states : List (List T)) (command : Command T P) (reply : Reply T)
+      → Steps cmp calls old commands replies states
+      → CapacitySteps old from commands replies states mid
+      → KeepsCapacity (length (last_state old states)) mid command reply (length new) to
+      → IsFull (length (last_state old states)) mid command reply (length new)
+      → CapacitySteps old from (commands ++ command ∷ []) (replies ++ reply ∷ []) (states ++ new ∷ []) to
+  more_capacity old new from mid to [] [] [] command reply run same kept full = (to, rw same at kept, rw same at full, refl)
+  more_capacity old new from mid to (c ∷ commands) (r ∷ replies) (state ∷ states) command reply run (next, first, told, rest) kept full =
+      (next, first, told, more_capacity state new next mid to commands replies states command reply run.1 rest kept full)
+  more_capacity old new from mid to commands replies states command reply run steps kept full = absurd run
+
 module _ {T P : Type 0} where
   -- fewer pushes that are sure ask for less
   IsServed-fewer : (few many : ℕ) (command : Command T P) (reply : Reply T) → few ≤ many → IsServed many command reply → IsServed few command reply
@@ -38,7 +50,7 @@ module _ {T P : Type 0} where
 -- a run of a heap goes on by one command
 module _ {T P : Type 0} {cmp : T → T → Ordering} {calls : P → T → Bool → P → Type 0} {D : ℕ} where
   pub Runs-begins : (heap : Contents T) → IsState cmp heap.items → Runs cmp calls D heap [] [] heap
-  Runs-begins heap state = record { states = []; begins = state; run = tt; ends = refl; charged = record { rises = omega arith; within = omega arith }; served = tt; sure = omega arith }
+  Runs-begins heap state = record { states = []; begins = state; run = tt; ends = refl; charged = record { rises = omega arith; within = omega arith }; served = tt; sure = omega arith; capacity = refl }
 
   pub Runs-more : {old mid new : Contents T} {commands : List (Command T P)} {replies : List (Reply T)} {command : Command T P} {reply : Reply T} → Runs cmp calls D old commands replies mid →
       Serves cmp calls D mid command reply new → Runs cmp calls D old (commands ++ command ∷ []) (replies ++ reply ∷ []) new
@@ -53,6 +65,8 @@ module _ {T P : Type 0} {cmp : T → T → Ordering} {calls : P → T → Bool �
         charged = record { rises = omega (arith, runs.charged.rises, serves.charged.rises); within = omega (arith, h.2, last, runs.charged.within, serves.charged.within) };
         served = h.3 runs.served (IsServed-fewer _ _ command reply runs.sure serves.served);
         sure = omega (arith, h.4, sure_after-fewer _ _ command reply runs.sure, serves.sure);
+        capacity = more_capacity cmp calls D old.items new.items old.capacity _ new.capacity commands replies runs.states command reply runs.run runs.capacity (rw runs.ends serves.kept)
+            (rw runs.ends serves.full);
       }
 
 module _ {T P : Type 0} where

@@ -1,8 +1,8 @@
 -- What a loan makes of a heap, from the contracts of its calls.
-use Rattle.dary_heap.proofs.{◌≡◌, ◌↔◌, ℕ, ◌+◌, ◌-◌, ◌*◌, ◌<◌, ◌≤◌, Bool, true, false, List, [], ◌∷◌, ◌++◌, length, refl, sym, ap, ◌∙◌, subst, arith, Option, Some, None, IsTrue, slice_set, Contains}
-use Rattle.dary_heap.proofs.{Contains-append_left, Contains-append_right, IsPermutation-refl, IsPermutation-sym, IsPermutation-trans, IsPermutation-cons, length_permutation, OnFalse, IsTotalOrder}
+use Rattle.dary_heap.proofs.{◌≡◌, ◌↔◌, ℕ, ◌+◌, ◌-◌, ◌*◌, ◌<◌, ◌≤◌, Bool, true, false, List, [], ◌∷◌, ◌++◌, length, refl, sym, ap, ◌∙◌, subst, arith, Option, Some, None, IsTrue, slice_set}
+use Rattle.dary_heap.proofs.{IsPermutation-refl, IsPermutation-sym, IsPermutation-trans, IsPermutation-cons, length_permutation, OnFalse, IsTotalOrder}
 use Rattle.dary_heap.proofs.{Ordering, written, IsSameBag, IsGreatest-same_bag, RisesWithin, refreshes, pop_bound, sink_bound, Contents, IsHeapOrdered, IsExceeded, Act, Write, Refresh, End, PutBack}
-use Rattle.dary_heap.proofs.{TakeOut, Seen, Old, Changed, Loan, Loaned, Acts, Ends, Serves, IsState, front, length-set, zero-le, Contains-first, IsAmong, IsAmong-cons, IsAmong-tail, IsAmong-same}
+use Rattle.dary_heap.proofs.{TakeOut, Seen, Old, Changed, Loan, Loaned, Acts, Ends, Serves, IsState, front, length-set, zero-le}
 use Rattle.dary_heap.proofs.{times_depth-later, ordered_state, IsSubBag, IsSubBag-same, IsSubBag-trans, IsSubBag-tail, append-nil, IsPermutation-middle, IsPermutation-append_left}
 use Rattle.dary_heap.proofs.Cancelling.{IsPermutation-uncons}
 use Rattle.dary_heap.proofs.run.SameStates.{HasGreater-same_bag}
@@ -76,6 +76,7 @@ module _ {X : Type 0} (cmp : X → X → Ordering) (D : ℕ) where
     pub to : now.items ≡ last ∷ left
     pub len : length now.items ≡ length begun.items
     pub counted : RisesWithin begun.comparisons now.comparisons (refreshes acts * sink_bound D (length begun.items))
+    pub capacity : now.capacity ≡ begun.capacity
 
 module _ {X : Type 0} {cmp : X → X → Ordering} {D : ℕ} where
   pub IsHeld-begins : (heap : Contents X) → 0 < length heap.items → IsHeld cmp D heap heap [] []
@@ -92,13 +93,14 @@ module _ {X : Type 0} {cmp : X → X → Ordering} {D : ℕ} where
         len = refl;
         counted =
             record { rises = omega arith; within = omega arith };
+        capacity = refl;
       }
 
   module _ {begun now : Contents X} {acts : List (Act X)} {seen : List (Seen X)} (h : IsHeld cmp D begun now acts seen) (new : Contents X) where
     -- one act more
     act_more : (act : Act X) (sight : Seen X) (last : X) (left : List X) → Acts cmp h.last h.left (act ∷ []) (sight ∷ []) last left → new.items ≡ last ∷ left → length new.items ≡ length now.items →
-        RisesWithin now.comparisons new.comparisons (refreshes (act ∷ []) * sink_bound D (length now.items)) → IsHeld cmp D begun new (acts ++ act ∷ []) (seen ++ sight ∷ [])
-    act_more act sight last left more is len counted = record {
+        RisesWithin now.comparisons new.comparisons (refreshes (act ∷ []) * sink_bound D (length now.items)) → new.capacity ≡ now.capacity → IsHeld cmp D begun new (acts ++ act ∷ []) (seen ++ sight ∷ [])
+    act_more act sight last left more is len counted same = record {
       first = h.first;
       rest = h.rest;
       last = last;
@@ -108,27 +110,29 @@ module _ {X : Type 0} {cmp : X → X → Ordering} {D : ℕ} where
       to = is;
       len = len ∙ h.len;
       counted = rw refreshes-append (record { rises = omega (arith, h.counted.rises, counted.rises); within = omega (arith, h.counted.within, rw h.len at counted.within) });
+      capacity = same ∙ h.capacity;
     }
 
     pub IsHeld-write : (x y : X) → front now.items ≡ Some y → new.items ≡ slice_set now.items 0 x → new.comparisons ≡ now.comparisons →
-        IsHeld cmp D begun new (acts ++ Write x ∷ []) (seen ++ Old y ∷ [])
-    IsHeld-write x y is written same =
+        new.capacity ≡ now.capacity → IsHeld cmp D begun new (acts ++ Write x ∷ []) (seen ++ Old y ∷ [])
+    IsHeld-write x y is written same room =
         let first : Some h.last ≡ Some y = sym (ap front h.to) ∙ is in
         act_more (Write x) (Old y) x h.left ((cc), (refl, IsPermutation-refl h.left)) (written ∙ ap (λ xs. slice_set xs 0 x) h.to) (ap length written ∙ length-set now.items 0 x)
-        (record { rises = omega (arith, same); within = omega (arith, same) })
+        (record { rises = omega (arith, same); within = omega (arith, same) }) room
 
     pub IsHeld-refresh : (moved : Bool) → (IsTrue moved ↔ IsExceeded cmp now.items) → IsSameBag now.items new.items → IsState cmp new.items → OnFalse moved (new.items ≡ now.items) →
-        RisesWithin now.comparisons new.comparisons (sink_bound D (length now.items)) → IsHeld cmp D begun new (acts ++ Refresh ∷ []) (seen ++ Changed moved ∷ [])
-    IsHeld-refresh true says bag state still counted =
+        RisesWithin now.comparisons new.comparisons (sink_bound D (length now.items)) → new.capacity ≡ now.capacity →
+        IsHeld cmp D begun new (acts ++ Refresh ∷ []) (seen ++ Changed moved ∷ [])
+    IsHeld-refresh true says bag state still counted room =
         let len = length_permutation now.items new.items bag in
         let w = parted new.items (omega (arith, len, ap length h.to)) in
         let greatest = IsGreatest-same_bag new.items (h.last ∷ h.left) w.0 (rw h.to at (IsPermutation-sym now.items new.items bag)) (state.greatest w.0 (ap front w.2)) in
         act_more Refresh (Changed true) w.0 w.1 (rw h.to at (says.0 refl), (w.0, w.1, greatest, rw (h.to, w.2) at bag, (refl, IsPermutation-refl w.1))) w.2 len
-        (record { rises = counted.rises; within = omega (arith, counted.within) })
-    IsHeld-refresh false says bag state still counted =
+        (record { rises = counted.rises; within = omega (arith, counted.within) }) room
+    IsHeld-refresh false says bag state still counted room =
         let none : IsExceeded cmp (h.last ∷ h.left) → ⊥ = λ over. (let said : false ≡ true = says.1 (rw h.to over) in cc) in
         act_more Refresh (Changed false) h.last h.left (none, (refl, IsPermutation-refl h.left)) (still ∙ h.to) (ap length still)
-        (record { rises = counted.rises; within = omega (arith, counted.within) })
+        (record { rises = counted.rises; within = omega (arith, counted.within) }) room
 
   -- what the heap and the acts held
   brought : {begun now : Contents X} {acts : List (Act X)} {seen : List (Seen X)} → IsHeld cmp D begun now acts seen → IsSubBag now.items (begun.items ++ (written acts ++ []))
@@ -137,7 +141,7 @@ module _ {X : Type 0} {cmp : X → X → Ordering} {D : ℕ} where
 module _ {X P : Type 0} {cmp : X → X → Ordering} {calls : P → X → Bool → P → Type 0} {D : ℕ} where
   -- from the heap at the start through the loan at its end to what that leaves behind its reference, which is what the heap is then
   module _ {old mid : Contents X} {acts : List (Act X)} {seen : List (Seen X)} (h : IsHeld cmp D old mid acts seen) (end new : Contents X) (back : new ≡ end)
-      (ordered : IsHeapOrdered cmp D end.items) where
+      (ordered : IsHeapOrdered cmp D end.items) (same : end.capacity ≡ mid.capacity) where
     ended : (kind : End) (given : Option X) (last_cost : ℕ) → RisesWithin mid.comparisons end.comparisons last_cost → last_cost ≤ sink_bound D (length mid.items) → IsSubBag end.items mid.items →
         Ends cmp h.last h.left kind given end.items → Serves cmp calls D old (Loan acts kind) (Loaned (Some (seen, given))) new
     ended kind given last_cost counted few among ends = rw back record {
@@ -147,6 +151,8 @@ module _ {X P : Type 0} {cmp : X → X → Ordering} {calls : P → X → Bool �
       sure = zero-le;
       ordered = ordered;
       among = IsSubBag-trans end.items mid.items _ among (brought h);
+      kept = same ∙ h.capacity;
+      full = tt;
     }
 
     pub put_back : IsTotalOrder cmp → RisesWithin mid.comparisons end.comparisons (sink_bound D (length mid.items)) → IsSameBag mid.items end.items →

@@ -33,10 +33,10 @@ pub returns-in-Pop : goal.returns-in-Pop
 returns-in-Pop g c = rw c.in-Pop.is (assumption c.pop.ensures)
 
 pub returns-in-Len : goal.returns-in-Len
-returns-in-Len g c = let e = c.len.ensures in rw c.in-Len.is (serves_same refl e.ordered (e.len, same_state _ _ refl) tt (le_refl _))
+returns-in-Len g c = let e = c.len.ensures in rw c.in-Len.is (serves_same refl e.ordered (e.len, same_state _ _ refl) tt (le_refl _) refl tt)
 
 pub returns-in-Retain : goal.returns-in-Retain
-returns-in-Retain g c = let e = c.retain.ensures in rw c.in-Retain.is (retained g.met.T.Ord.total _ _ _ e.retained e.ordered)
+returns-in-Retain g c = let e = c.retain.ensures in rw c.in-Retain.is (retained g.met.T.Ord.total _ _ _ e.retained e.ordered e.capacity)
 
 pub returns-in-Extend : goal.returns-in-Extend
 returns-in-Extend g c = rw c.in-Extend.is (assumption c.extend.ensures)
@@ -53,7 +53,7 @@ returns-in-Shrink g c = rw c.in-Shrink.is (assumption c.shrink.ensures)
 pub returns-in-Clear : goal.returns-in-Clear
 returns-in-Clear g c =
     let e = c.clear.ensures in
-    rw c.in-Clear.is (serves_emptied e.items refl (record { rises = omega (arith, e.uncounted); within = omega (arith, e.uncounted) }) tt zero-le)
+    rw c.in-Clear.is (serves_emptied e.items refl (record { rises = omega (arith, e.uncounted); within = omega (arith, e.uncounted) }) tt zero-le e.capacity tt)
 
 pub returns-in-Drain : goal.returns-in-Drain
 returns-in-Drain g c = rw c.in-Drain.is (assumption c.drain.ensures)

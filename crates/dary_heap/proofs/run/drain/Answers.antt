@@ -6,7 +6,7 @@ use Rattle.dary_heap.proofs.sift.Written.{none_counted, written_back}
 use Rattle.dary_heap.proofs.run.drain.Goals as goal
 
 pub returns-in_default : goal.returns-in_default
-returns-in_default g c = serves_same refl c.len.ensures.ordered (refused _ c.args.count _ _ c.len.ensures.len c.min-count.ensures c.in_default.ensures.succeeds) tt zero-le
+returns-in_default g c = serves_same refl c.len.ensures.ordered (refused _ c.args.count _ _ c.len.ensures.len c.min-count.ensures c.in_default.ensures.succeeds) tt zero-le refl tt
 
 pub unwrap-requires : goal.unwrap-requires
 unwrap-requires g c =
@@ -43,4 +43,4 @@ returns g c =
     let m = min c.args.count (length c.args.heap.now.items) in
     let long : length c.loop.taken.items ≡ m = omega (arith, c.min-count.ensures, c.len.ensures.len, c.loop.taken.ok.0, before.long, c.loop.auto.counter-end, c.loop-test.false) in
     let taken = ap (λ xs. take m xs) (sym c.drain-rest.ensures.items ∙ before.parts) ∙ written_back m c.loop.taken.items (drain_rest c.loop.rest) long in
-    serves_emptied refl ((c.args.heap.now.items, same_state _ _ refl, sym taken ∙ take_min c.args.count c.args.heap.now.items), refl) (none_counted _ _) tt zero-le
+    serves_emptied refl ((c.args.heap.now.items, same_state _ _ refl, sym taken ∙ take_min c.args.count c.args.heap.now.items), refl) (none_counted _ _) tt zero-le refl tt

@@ -19,8 +19,8 @@ module _ {X J : Type 0} (cmp : X → X → Ordering) {D : ℕ} where
   drained_counts : (first : DrainSorted X D J) (taken : List X) (later : DrainSorted X D J) → Yields (DrainsSorted cmp) first taken later →
       (length taken + length (drained_heap later).items ≡ length (drained_heap first).items) ×
       RisesWithin (drained_heap first).comparisons ((drained_heap later).comparisons + pops_bound D (length (drained_heap later).items)) (pops_bound D (length (drained_heap first).items)) ×
-      ((drained_heap first).comparisons ≤ (drained_heap later).comparisons)
-  drained_counts first [] later run = rw run (omega arith, record { rises = omega arith; within = omega arith }, omega arith)
+      ((drained_heap first).comparisons ≤ (drained_heap later).comparisons) × ((drained_heap later).capacity ≡ (drained_heap first).capacity)
+  drained_counts first [] later run = rw run (omega arith, record { rises = omega arith; within = omega arith }, omega arith, refl)
   drained_counts first (m ∷ taken) later run =
       let old = drained_heap first in
       let pop = run.1.0 in
@@ -30,6 +30,7 @@ module _ {X J : Type 0} (cmp : X → X → Ordering) {D : ℕ} where
         omega (arith, h.0, pop.len),
         record { rises = omega (arith, h.2, pop.counted.rises); within = omega (arith, pop.counted.within, fewer.within, pops_bound_step D (length old.items) some) },
         omega (arith, h.2, pop.counted.rises),
+        h.3 ∙ pop.capacity,
       )
 
 -- what an iterator leaves behind its reference is what the heap is then
@@ -38,7 +39,7 @@ serves_behind : {X P : Type 0} {cmp : X → X → Ordering} {calls : P → X →
 serves_behind end same serves = rw same serves
 
 pub returns-in_default : goal.returns-in_default
-returns-in_default g c = serves_same refl c.len.ensures.ordered (refused _ c.args.count _ _ c.len.ensures.len c.min-count.ensures c.in_default.ensures.succeeds) tt zero-le
+returns-in_default g c = serves_same refl c.len.ensures.ordered (refused _ c.args.count _ _ c.len.ensures.len c.min-count.ensures c.in_default.ensures.succeeds) tt zero-le refl tt
 
 pub unwrap-requires : goal.unwrap-requires
 unwrap-requires g c =
@@ -71,4 +72,4 @@ returns g c =
     let in_turn = drained_in_turn g.T.Ord.cmp g.met.T.Ord.total c.args.count c.drain_sorted-items.result c.loop.taken.items c.loop.items before.given (omega (arith, long))
     (λ fewer. nil_from_length _ (omega (arith, long, counts.0))) in
     rw (← begun) (serves_behind c.drop-items.new.self.0 (search (arith, same))
-    (serves_emptied c.drop-items.ensures.items (in_turn, refl) (record { rises = omega (arith, counts.2, last.rises); within = omega (arith, counts.1.within, last.within) }) tt zero-le))
+    (serves_emptied c.drop-items.ensures.items (in_turn, refl) (record { rises = omega (arith, counts.2, last.rises); within = omega (arith, counts.1.within, last.within) }) tt zero-le (c.drop-items.ensures.capacity ∙ counts.3) tt))

@@ -10,7 +10,7 @@ use Rattle.dary_heap.proofs.run.loan.Goals.{Joined-end, in-Write, in-Refresh, in
 pub returns-then-is_empty : goal.returns-then-is_empty
 returns-then-is_empty g c =
     let none = nil_from_length c.args.heap.now.items (eqb-true _ 0 (sym c.if-is_empty.ensures.empty)) in
-    serves_same refl c.if-is_empty.ensures.ordered (none, none) tt zero-le
+    serves_same refl c.if-is_empty.ensures.ordered (none, none) tt zero-le refl tt
 
 pub returns-in_default : goal.returns-in_default
 returns-in_default g c =
@@ -20,7 +20,7 @@ returns-in_default g c =
       (λ none. some (ap length none)),
       (λ none. failed (c.len.ensures ∙ c.args.acts.ok.0 ∙ sym (length-map c.args.acts.items read.act) ∙ ap length none)),
       same_state _ _ refl,
-    ) tt zero-le
+    ) tt zero-le refl tt
 
 pub loop-act-init : goal.loop-act-init
 loop-act-init g c =
@@ -45,8 +45,8 @@ loop-act-preserved g c =
       space = omega (arith, ap length c.push_reserved.ensures.items, length-append seen (shown ∷ []), c.push_reserved.ensures.capacity, steps.1, before.space);
       held = rw (c.push_reserved.ensures.items, map-append read.act yielded (act ∷ []), map-append read.sight seen (shown ∷ [])) (elim c.match-act.branch [
         | in-Write w ↦ rw (w.in-Write.is, w.push_reserved-is, w.replace.ensures.value, w.loan-is)
-            (IsHeld-write before.held _ w.in-Write.item w.deref_mut.result.now w.deref_mut.ensures.first (ap (slice_set (loaned c.loop-act.loan).items 0) w.replace.ensures.after) refl)
-        | in-Refresh w ↦ let h = w.refresh.ensures in rw (w.in-Refresh.is, w.push_reserved-is, w.loan-is) (IsHeld-refresh before.held _ w.refresh.result h.moved h.bag h.greatest h.unmoved h.counted)
+            (IsHeld-write before.held _ w.in-Write.item w.deref_mut.result.now w.deref_mut.ensures.first (ap (slice_set (loaned c.loop-act.loan).items 0) w.replace.ensures.after) refl refl)
+        | in-Refresh w ↦ let h = w.refresh.ensures in rw (w.in-Refresh.is, w.push_reserved-is, w.loan-is) (IsHeld-refresh before.held _ w.refresh.result h.moved h.bag h.greatest h.unmoved h.counted h.capacity)
       ]);
       same_reference = elim c.match-act.branch [
         | in-Write w ↦ rw w.loan-is before.same_reference
@@ -70,8 +70,8 @@ returns g c =
     elim c.match-end.branch [
       | in-Drop w ↦
           let h = w.drop.ensures in
-          rw (w.in-Drop.is, w.popped-is) (put_back (held g c) w.drop.new.self.0 c.match-end.heap (w.heap-is ∙ search (arith, same)) h.ordered g.met.T.Ord.total h.counted h.bag h.first)
+          rw (w.in-Drop.is, w.popped-is) (put_back (held g c) w.drop.new.self.0 c.match-end.heap (w.heap-is ∙ search (arith, same)) h.ordered h.capacity g.met.T.Ord.total h.counted h.bag h.first)
       | in-Pop w ↦
           let h = w.pop.ensures in
-          rw (w.in-Pop.is, w.popped-is) (taken_out (held g c) w.pop.new.this.0 c.match-end.heap (w.heap-is ∙ search (arith, same)) h.ordered g.met.T.Ord.total w.pop.result h.counted h.first h.bag)
+          rw (w.in-Pop.is, w.popped-is) (taken_out (held g c) w.pop.new.this.0 c.match-end.heap (w.heap-is ∙ search (arith, same)) h.ordered h.capacity g.met.T.Ord.total w.pop.result h.counted h.first h.bag)
     ]

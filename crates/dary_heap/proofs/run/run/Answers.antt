@@ -1,5 +1,5 @@
-use Rattle.dary_heap.proofs.{◌≡◌, [], ◌∷◌, ◌++◌, length, map, All, Contains, sym, ap, ◌∙◌, subst, arith, inl, inr, append_assoc, append-nil, length-append, map-append, nil_from_length}
-use Rattle.dary_heap.proofs.{Contains-append_left, Contains-append_right, Contains-append_cases, into_iter_items, MayCall, items_in, ordered_state, IsSubBag-front}
+use Rattle.dary_heap.proofs.{◌≡◌, [], ◌∷◌, ◌++◌, length, map, All, sym, ap, ◌∙◌, subst, arith, inl, inr, append_assoc, append-nil, length-append, map-append, nil_from_length}
+use Rattle.dary_heap.proofs.{into_iter_items, MayCall, items_in, ordered_state, IsSubBag-front}
 use Rattle.dary_heap.proofs.Callable.{all_callable}
 use Rattle.dary_heap.specs.Reading as read
 use Rattle.dary_heap.proofs.run.Runs.{callable_one, came_with, Runs-begins, Runs-more}

@@ -1,4 +1,4 @@
-use Rattle.dary_heap.proofs.Common.{◌≡◌, ◌+◌, ◌≤◌, ◌++◌, length, Contains, vec_capacity, CalledAt, into_iter_items, into_iter_len, items_in, IsHeapOrdered, Runs, IsSubBag}
+use Rattle.dary_heap.proofs.Common.{◌≡◌, ◌+◌, ◌≤◌, ◌++◌, length, vec_capacity, CalledAt, into_iter_items, into_iter_len, items_in, IsHeapOrdered, Runs, IsSubBag}
 use Rattle.dary_heap.specs.Reading as read
 use Rattle.dary_heap.proofs.run.run.Given as goal
 
