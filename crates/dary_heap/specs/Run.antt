@@ -6,7 +6,8 @@ use Rattle.dary_heap.specs.Bag.{IsSubBag}
 use Rattle.dary_heap.specs.Bounds.{RisesWithin, charge, charges}
 use Rattle.dary_heap.specs.Contents.{Contents}
 use Rattle.dary_heap.specs.HeapOrder.{IsHeapOrdered}
-use Rattle.dary_heap.specs.Machine.{Command, Reply, Push, Pop, PopIf, Ask, Len, Extend, Append, Reserve, Shrink, Drain, Pushed, PushRefused, Done, ExtendRefused, AppendRefused, Refused, Taken, Step, Steps, last_state}
+use Rattle.dary_heap.specs.Machine.{Command, Reply, Push, Pop, PopIf, Ask, Len, Extend, Append, Reserve, Shrink, Drain, Pushed, PushRefused, Done, ExtendRefused, AppendRefused, Refused}
+use Rattle.dary_heap.specs.Machine.{Taken, Step, Steps, last_state}
 use Rattle.dary_heap.specs.BagState.{IsState}
 
 -- how many pushes there is room for

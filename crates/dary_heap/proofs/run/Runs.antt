@@ -1,8 +1,10 @@
 -- A run goes on by one command. What it asks of the caller, and the items that it brings in, are among those of all commands.
-use Rattle.dary_heap.proofs.Common.{◌≡◌, ℕ, ◌+◌, ◌≤◌, Bool, List, [], ◌∷◌, ◌++◌, length, refl, ap, arith, Ordering, charge, Contents, Command, Reply, Step, Steps, last_state, IsState, IsServed, KeepsCapacity, IsFull, CapacitySteps}
+use Rattle.dary_heap.proofs.Common.{◌≡◌, ℕ, ◌+◌, ◌≤◌, Bool, List, [], ◌∷◌, ◌++◌, length, refl, ap, arith, Ordering, charge, Contents, Command, Reply, Step, Steps, last_state, IsState}
+use Rattle.dary_heap.proofs.Common.{IsServed, KeepsCapacity, IsFull, CapacitySteps}
 use Rattle.dary_heap.proofs.Common.{◌∙◌, Runs, Serves, room, sure_after, All, Contains, sym, subst, append_assoc, All-contains}
 use Rattle.dary_heap.proofs.Common.{Contains-append_right, Mut, Bor, MayCall, MayServe, items_in, zero-le, Some, slice_get, slice_get_within, get_or_from_slice_get, IsSubBag}
 use Rattle.dary_heap.proofs.Bags.{IsAmong-sub_bag, IsSubBag-append, IsSubBag-front, IsSubBag-trans}
+use Rattle.dary_heap.proofs.sift.Written.{none_counted}
 use Rattle.dary_heap.specs.Bounds.{charges}
 use Rattle.dary_heap.specs.Run.{PushesServed, sure_at_end}
 use Rattle.dary_heap.specs.Machine as machine
@@ -50,7 +52,9 @@ module _ {T P : Type 0} where
 -- a run of a heap goes on by one command
 module _ {T P : Type 0} {cmp : T → T → Ordering} {calls : P → T → Bool → P → Type 0} {D : ℕ} where
   pub Runs-begins : (heap : Contents T) → IsState cmp heap.items → Runs cmp calls D heap [] [] heap
-  Runs-begins heap state = record { states = []; begins = state; run = tt; ends = refl; charged = record { rises = omega arith; within = omega arith }; served = tt; sure = omega arith; capacity = refl }
+  Runs-begins heap state =
+      let none = none_counted heap.comparisons 0 in
+      record { states = []; begins = state; run = tt; ends = refl; charged = none; served = tt; sure = omega arith; capacity = refl }
 
   pub Runs-more : {old mid new : Contents T} {commands : List (Command T P)} {replies : List (Reply T)} {command : Command T P} {reply : Reply T} → Runs cmp calls D old commands replies mid →
       Serves cmp calls D mid command reply new → Runs cmp calls D old (commands ++ command ∷ []) (replies ++ reply ∷ []) new

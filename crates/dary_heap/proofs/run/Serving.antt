@@ -1,10 +1,12 @@
 -- What one command makes of a heap, from the contract of the call that carries it out.
 use Rattle.dary_heap.proofs.{◌≡◌, ℕ, ◌≤◌, ◌↔◌, Bool, List, [], ◌∷◌, ◌++◌, length, IsPermutation, refl, subst, arith, Option, Some, None, IfSome, IfNone, slice_get, sym, inl, inr, true}
 use Rattle.dary_heap.proofs.{false, IsTotalOrder, Mut, Called, CalledAt, length_permutation, Ordering}
-use Rattle.dary_heap.proofs.{RisesWithin, pop_bound, charge, Contents, IsHeapOrdered, Command, Reply, Pop, Ask, Popped, Asked, Step, IsServed, KeepsCapacity, IsFull, Serves, room, sure_after, front, suc, ◌-◌, if◌then◌else◌}
+use Rattle.dary_heap.proofs.{RisesWithin, pop_bound, charge, Contents, IsHeapOrdered, Command, Reply, Pop, Ask, Popped, Asked, Step, IsServed, KeepsCapacity, IsFull, Serves, room}
+use Rattle.dary_heap.proofs.{sure_after, front, suc, ◌-◌, if◌then◌else◌}
 use Rattle.dary_heap.proofs.{min, ap, ◌∙◌, length-append, append-nil, mul-le-mul_right, Bor, items_where_true, IsSameBag, IsGreatest}
 use Rattle.dary_heap.proofs.{mend_bound, IsExtended, first_no, depth, PopIf, Retain, Extend, Append, Done, IsJoined, nat_tests, ◌≢◌, le_refl, zero-le, true≢false, IsSameState}
-use Rattle.dary_heap.proofs.{front_cases, ordered_state, same_state, none_ordered, read, IsPermutation-refl, IsSubBag, IsSubBag-front, IsSubBag-trans, IsSubBag-same, IsSubBag-tail, append_assoc, IsPermutation-append_left, IsSubBag-picked}
+use Rattle.dary_heap.proofs.{front_cases, ordered_state, same_state, none_ordered, read, IsPermutation-refl, IsSubBag, IsSubBag-front, IsSubBag-trans, IsSubBag-same, IsSubBag-tail}
+use Rattle.dary_heap.proofs.{append_assoc, IsPermutation-append_left, IsSubBag-picked}
 use Rattle.dary_heap.proofs.Popping.{none_first}
 use Rattle.dary_heap.specs.Filtering.{IsRetained}
 use Rattle.dary_heap.proofs.heap.Filtering.{few_picked}

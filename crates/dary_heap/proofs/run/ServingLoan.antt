@@ -99,7 +99,8 @@ module _ {X : Type 0} {cmp : X → X → Ordering} {D : ℕ} where
   module _ {begun now : Contents X} {acts : List (Act X)} {seen : List (Seen X)} (h : IsHeld cmp D begun now acts seen) (new : Contents X) where
     -- one act more
     act_more : (act : Act X) (sight : Seen X) (last : X) (left : List X) → Acts cmp h.last h.left (act ∷ []) (sight ∷ []) last left → new.items ≡ last ∷ left → length new.items ≡ length now.items →
-        RisesWithin now.comparisons new.comparisons (refreshes (act ∷ []) * sink_bound D (length now.items)) → new.capacity ≡ now.capacity → IsHeld cmp D begun new (acts ++ act ∷ []) (seen ++ sight ∷ [])
+        RisesWithin now.comparisons new.comparisons (refreshes (act ∷ []) * sink_bound D (length now.items)) → new.capacity ≡ now.capacity →
+        IsHeld cmp D begun new (acts ++ act ∷ []) (seen ++ sight ∷ [])
     act_more act sight last left more is len counted same = record {
       first = h.first;
       rest = h.rest;

@@ -8,4 +8,9 @@ returns-in-Ok g c = let e = c.in-Ok.ensures in appended g.met.T.Ord.total _ _ _ 
 pub returns-in-Err : goal.returns-in-Err
 returns-in-Err g c =
     let e = c.in-Err.ensures in
-    serves_same e.unchanged e.ordered (same_state _ _ (ap (λ (it : Contents g.row.T.Denot). it.items) e.other_unchanged), same_state _ _ refl) tt zero-le refl (grind (arith, nat_tests, e.full), grind (arith, nat_tests, e.full), λ few. grind (arith, nat_tests, e.full, few))
+    let back = ap (λ (it : Contents g.row.T.Denot). it.items) e.other_unchanged in
+    serves_same e.unchanged e.ordered (same_state _ _ back, same_state _ _ refl) tt zero-le refl (
+      grind (arith, nat_tests, e.full),
+      grind (arith, nat_tests, e.full),
+      λ few. grind (arith, nat_tests, e.full, few),
+    )

@@ -71,5 +71,6 @@ returns g c =
     omega (arith, c.min-count.ensures, c.len.ensures.len, items, c.loop.taken.ok.0, before.long, c.loop.auto.counter-end, c.loop-test.false) in
     let in_turn = drained_in_turn g.T.Ord.cmp g.met.T.Ord.total c.args.count c.drain_sorted-items.result c.loop.taken.items c.loop.items before.given (omega (arith, long))
     (λ fewer. nil_from_length _ (omega (arith, long, counts.0))) in
+    let kept = c.drop-items.ensures.capacity ∙ counts.3 in
     rw (← begun) (serves_behind c.drop-items.new.self.0 (search (arith, same))
-    (serves_emptied c.drop-items.ensures.items (in_turn, refl) (record { rises = omega (arith, counts.2, last.rises); within = omega (arith, counts.1.within, last.within) }) tt zero-le (c.drop-items.ensures.capacity ∙ counts.3) tt))
+    (serves_emptied c.drop-items.ensures.items (in_turn, refl) (record { rises = omega (arith, counts.2, last.rises); within = omega (arith, counts.1.within, last.within) }) tt zero-le kept tt))

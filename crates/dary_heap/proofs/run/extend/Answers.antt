@@ -14,4 +14,5 @@ returns-in-Err g c =
     let k = c.in-Err.ensures.refused in
     let left = gives_left takes (λ x. x) (k.came ++ k.refused.refused ∷ []) k.from.rest.items k.from k.refused.left (taken k.from) k.refused.gave in
     let split = sym k.begins.0 ∙ left.1 ∙ ap (λ xs. xs ++ left.0) (map-id _) ∙ append_assoc k.came (k.refused.refused ∷ []) left.0 in
-    came_in g.met.T.Ord.total _ _ _ k.came _ _ split (rw map-id at k.extended) (λ joined. (k.came, k.refused.refused ∷ left.0, split, omega arith, joined)) (omega (arith, k.refused.full, k.extended.len, ap length (map-id k.came)))
+    came_in g.met.T.Ord.total _ _ _ k.came _ _ split (rw map-id at k.extended) (λ joined. (k.came, k.refused.refused ∷ left.0, split, omega arith, joined))
+    (omega (arith, k.refused.full, k.extended.len, ap length (map-id k.came)))

@@ -46,7 +46,8 @@ loop-act-preserved g c =
       held = rw (c.push_reserved.ensures.items, map-append read.act yielded (act ∷ []), map-append read.sight seen (shown ∷ [])) (elim c.match-act.branch [
         | in-Write w ↦ rw (w.in-Write.is, w.push_reserved-is, w.replace.ensures.value, w.loan-is)
             (IsHeld-write before.held _ w.in-Write.item w.deref_mut.result.now w.deref_mut.ensures.first (ap (slice_set (loaned c.loop-act.loan).items 0) w.replace.ensures.after) refl refl)
-        | in-Refresh w ↦ let h = w.refresh.ensures in rw (w.in-Refresh.is, w.push_reserved-is, w.loan-is) (IsHeld-refresh before.held _ w.refresh.result h.moved h.bag h.greatest h.unmoved h.counted h.capacity)
+        | in-Refresh w ↦ let h = w.refresh.ensures in
+            rw (w.in-Refresh.is, w.push_reserved-is, w.loan-is) (IsHeld-refresh before.held _ w.refresh.result h.moved h.bag h.greatest h.unmoved h.counted h.capacity)
       ]);
       same_reference = elim c.match-act.branch [
         | in-Write w ↦ rw w.loan-is before.same_reference
@@ -73,5 +74,6 @@ returns g c =
           rw (w.in-Drop.is, w.popped-is) (put_back (held g c) w.drop.new.self.0 c.match-end.heap (w.heap-is ∙ search (arith, same)) h.ordered h.capacity g.met.T.Ord.total h.counted h.bag h.first)
       | in-Pop w ↦
           let h = w.pop.ensures in
-          rw (w.in-Pop.is, w.popped-is) (taken_out (held g c) w.pop.new.this.0 c.match-end.heap (w.heap-is ∙ search (arith, same)) h.ordered h.capacity g.met.T.Ord.total w.pop.result h.counted h.first h.bag)
+          let back = w.heap-is ∙ search (arith, same) in
+          rw (w.in-Pop.is, w.popped-is) (taken_out (held g c) w.pop.new.this.0 c.match-end.heap back h.ordered h.capacity g.met.T.Ord.total w.pop.result h.counted h.first h.bag)
     ]
