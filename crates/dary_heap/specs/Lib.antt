@@ -24,6 +24,7 @@ pub mod SizeHints
 pub mod BagState
 pub mod TailRepair
 pub mod TwoArities
+pub mod Updating
 pub mod Walk
 -- for private functions alone, by the module that they stand in
 pub mod hole

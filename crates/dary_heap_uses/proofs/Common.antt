@@ -12,12 +12,12 @@ pub use Rattle.dary_heap.proofs.Common.{sink_bound, slice_get, subst, suc, sum_b
 pub use Rattle.dary_heap.proofs.Common.{◌∙◌, ◌∷◌, ◌≡◌, ◌≢◌, ◌≤◌, ◌⊎◌}
 pub use Rattle.dary_heap.proofs.Depth.{depth-later, depth-parent, times_depth-later}
 pub use Rattle.dary_heap.specs.PeekMut.{is_written, lender}
-pub use Rattle.indexed_heap.proofs.Callers.{AreDistinct-map, Gets-all, Gets-given, Gets-map, InsertsWithin-map, IsAbsent-map, IsEntry-map, Loses-all, item_of-absent, item_of-map}
+pub use Rattle.indexed_heap.proofs.Callers.{AreDistinct-map, Gets-all, Gets-given, Gets-map, InsertsWithin-map, IsAbsent-map, IsEntry-map, Loses-all, item_of-absent, item_of-map, item_of-there}
 pub use Rattle.indexed_heap.specs.Entries.{AreDistinct, Gets, IsAbsent, by_item, entries_of, item_of}
 pub use Rattle.dary_heap_uses.specs.FromStd.{Falls}
 pub use Rattle.dary_heap_uses.specs.Keeping.{KeepsGreatest, values}
 pub use Rattle.dary_heap_uses.specs.Merging.{heads_of, listed}
-pub use Rattle.dary_heap_uses.specs.Scheduling.{ComesBefore, IsNumbered, turn_of}
+pub use Rattle.dary_heap_uses.specs.Scheduling.{ComesBefore, HasMoved, IsNumbered, submitted, turn_of}
 pub use Rattle.dary_heap_uses.specs.Simulation.{IsMade, IsNotBefore, IsRun, IsStep, Step}
 pub use Rattle.dary_heap_uses.specs.Timers.{IsBefore, IsFirst, named}
 pub use Rattle.dary_heap_uses.specs.declared.merge.Head.{Head}
@@ -36,12 +36,12 @@ pub use Rattle.std.proofs.lemmas.List.Kept.{IsSortedBy-push}
 pub use Rattle.std.proofs.lemmas.List.MinMax.{ranks_by}
 pub use Rattle.std.proofs.lemmas.List.Quantifiers.{all_pairs_push}
 pub use Rattle.std.proofs.lemmas.List.Sorted.{All-permutation, IsNonDecreasingBy-from_sort, IsPermutation-append_right, IsPermutation-map, IsPermutation-pop_more, IsPermutation-push_more}
-pub use Rattle.std.proofs.lemmas.List.Sorted.{le_from_greatest, sorted_far}
+pub use Rattle.std.proofs.lemmas.List.Sorted.{IsPermutation-remove, le_from_greatest, sorted_far}
 pub use Rattle.std.proofs.lemmas.List.Sums.{length-filter}
 pub use Rattle.std.proofs.lemmas.Result.{on_err_weaker}
 pub use Rattle.std.specs.Cmp.{IsStrictWeakOrder, nat_cmp_total}
-pub use Rattle.std.specs.List.{AllPairs, FoldsTo, filter, flat_map}
-pub use Rattle.std.specs.List.Sorted.{IsSorted, IsSortedBy, IsStableBy, ties}
+pub use Rattle.std.specs.List.{AllPairs, FoldsTo, filter, flat_map, remove}
+pub use Rattle.std.specs.List.Sorted.{IsPermutation, IsSorted, IsSortedBy, IsStableBy, ties}
 pub use Rattle.std.specs.Ordering.{flip_args}
 unfoldable pub use Rattle.std.specs.List.{IsDistinct}
 pub use native.Mathlib.Numerals.{unary_clauses}

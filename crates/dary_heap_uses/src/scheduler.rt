@@ -186,8 +186,6 @@ impl<J> Scheduler<J> {
     /// Gives the job of an id another priority, at which it keeps its turn. Returns `false` if none waits. It
     /// allocates no memory.
     pub fn reprioritise(&mut self, id: usize, priority: u32) -> bool
-    where
-        J: Drop,
         ensures changed { OnTrue result
             (HasMoved id priority self.old.waiting self.new.waiting) }
         ensures absent { OnFalse result (IsAbsent id self.old.waiting) }
@@ -196,14 +194,6 @@ impl<J> Scheduler<J> {
         ensures ids { self.new.ids ≡ self.old.ids }
         ensures unchanged { OnFalse result (self.new ≡ self.old) }
     {
-        let Some(mut waiting) = self.jobs.remove(id) else {
-            return false;
-        };
-        waiting.priority = priority;
-        let Ok(_) = self.jobs.insert(id, waiting) else {
-            // There is the room that the job had.
-            unreachable!();
-        };
-        true
+        self.jobs.update(id, |waiting| waiting.priority = priority)
     }
 }

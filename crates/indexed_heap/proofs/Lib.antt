@@ -5,6 +5,7 @@ pub mod Renaming
 pub mod Bounding
 pub mod Sound
 pub mod Raising
+pub mod Updating
 pub mod Callers
 pub mod AsMap
 pub mod Iterating

@@ -10,4 +10,5 @@ pub mod Places
 pub mod Renaming
 pub mod Showing
 pub mod Storing
+pub mod Updating
 pub mod Ways

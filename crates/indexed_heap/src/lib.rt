@@ -47,7 +47,7 @@
 //! | method | comparisons, at most |
 //! |---|---|
 //! | [`insert`](IndexedHeap::insert) of a key without an item | the depth of the new place: *O*(log *n*) |
-//! | [`insert`](IndexedHeap::insert) of a key with an item, [`change`](IndexedHeap::change) | the depth of its place, and `D` for each level from there down to that of the last place |
+//! | [`insert`](IndexedHeap::insert) of a key with an item, [`change`](IndexedHeap::change), [`update`](IndexedHeap::update) | the depth of its place, and `D` for each level from there down to that of the last place |
 //! | [`raise`](IndexedHeap::raise) | one more than the depth of a new place |
 //! | [`lower`](IndexedHeap::lower), each entry of [`append`](IndexedHeap::append) | one more than `D` times the depth of the last place |
 //! | [`retain`](IndexedHeap::retain) | as `retain` of a `DaryHeap`, and none if it drops nothing |

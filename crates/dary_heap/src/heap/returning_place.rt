@@ -8,6 +8,7 @@
 //! the path (`went`, `went_up`, `went_down`), and for each once the places of those on the path are written, from the
 //! lower end on (`noted_next`, `noted_last`).
 ghost use Rattle.std.specs.Prelude.{◌≡◌, ◌≢◌, ◌+◌, ◌-◌, ◌*◌, ◌<◌, ◌≤◌, [], ◌∷◌, ◌++◌, length, set, slice_get, Some, IfOk, IfErr, OnErr};
+ghost use Rattle.std.specs.Fn.{FnOnceTakesAtMut};
 ghost use Rattle.std.specs.List.{swap_remove};
 ghost use Rattle.std.specs.declared.cmp.Ordering.TheVariants.{Greater};
 ghost use Rattle.dary_heap.specs.Bag.{IsSameBag};
@@ -15,6 +16,7 @@ ghost use Rattle.dary_heap.specs.Bounds.{RisesWithin, fix_bound, push_bound};
 ghost use Rattle.dary_heap.specs.HeapOrder.{IsHeapOrdered, arity, depth};
 ghost use Rattle.dary_heap.specs.Path.{GoesTo, GoesUp};
 ghost use Rattle.dary_heap.specs.BagState.{front, front_with};
+ghost use Rattle.dary_heap.specs.Updating.{IsUpdated};
 
 use super::DaryHeap;
 use crate::sift::{
@@ -142,6 +144,42 @@ impl<T, const D: usize, J: Judge<T>> DaryHeap<T, D, J> {
         let old = mem::replace(&mut self.items[place], item);
         let stop = fix_with::<T, J, D>(self.items.as_mut_slice(), place, &mut self.judge);
         (old, stop)
+    }
+
+    /// Changes the item at a place by a function, and moves the item up or down to where it belongs. Returns the place where
+    /// it stops.
+    ///
+    /// The function is called once. It may leave any item, and no other item changes. The call takes at most as many
+    /// comparisons as [`replace_at`](DaryHeap::replace_at), and the capacity stays the same.
+    ///
+    /// # Preconditions
+    ///
+    /// - `place` is below the length.
+    /// - `f` may be called on the item at `place`.
+    ///
+    /// # Examples
+    ///
+    /// ```
+    /// use dary_heap::BinaryHeap;
+    /// let mut heap = BinaryHeap::from(vec![in alloc; 9, 5, 7, 1, 2]?);
+    /// assert_eq!(rt; heap.update_at_returning_place(3, |item| *item += 7), 1);
+    /// assert_eq!(rt; heap.as_slice(), [9, 8, 7, 5, 2].as_slice());
+    /// ```
+    #[inline]
+    pub fn update_at_returning_place<F: FnOnce(&mut T)>(&mut self, place: usize, f: F) -> usize
+        requires inside { place < length self.old.items }
+        requires callable { (held : T) → slice_get self.old.items place ≡ Some held
+            → FnOnceTakesAtMut F.FnOnce f held }
+        ensures updated { IsUpdated F.FnOnce f D place result self.old.items self.new.items }
+        ensures within { result < length self.new.items }
+        ensures len { length self.new.items ≡ length self.old.items }
+        ensures ordered { IsHeapOrdered J.order D self.new.items }
+        ensures counted { RisesWithin self.old.comparisons self.new.comparisons
+            (fix_bound D (length self.old.items) place) }
+        ensures capacity { self.new.capacity ≡ self.old.capacity }
+    {
+        f(&mut self.items[place]);
+        fix_with::<T, J, D>(self.items.as_mut_slice(), place, &mut self.judge)
     }
 
     /// Puts a strictly greater item at a place, and returns the one that was there with the place where the new one

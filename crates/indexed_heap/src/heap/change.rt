@@ -1,13 +1,15 @@
 //! Calls that give a key an item, or change the one that it has.
 ghost use Rattle.std.specs.Prelude.{◌≡◌, ℕ, ◌+◌, length, is_some, Some, IfSome, IfNone, IfOk, OnOk, if◌then◌else◌};
 ghost use Rattle.std.specs.Bool.{OnTrue, OnFalse};
-ghost use Rattle.std.specs.Fn.{FnOnceReturnsAt, FnOnceTakesAt};
+ghost use Rattle.std.specs.Fn.{FnOnceReturnsAt, FnOnceReturnsAtMut, FnOnceTakesAt, FnOnceTakesAtMut};
 ghost use Rattle.std.specs.Ordering.{flip_args};
 ghost use Rattle.dary_heap.specs.Bounds.{RisesWithin, fix_bound, push_bound, sink_bound};
-ghost use Rattle.indexed_heap.specs.Entries.{AreSound, Gets, InsertsWithin, IsEntry, IsReached, Raises, by_item, item_of};
+ghost use Rattle.indexed_heap.specs.Entries.{AreSound, Gets, InsertsWithin, IsAbsent, IsEntry, IsReached, Raises, by_item, item_of};
 ghost use Rattle.indexed_heap.specs.Storing.{Stores};
+ghost use Rattle.indexed_heap.specs.Updating.{Updates};
 
 use super::IndexedHeap;
+use super::table::write_moved;
 use dary_heap::sift::Judge;
 
 impl<T, const D: usize, J: Judge<T>> IndexedHeap<T, D, J> {
@@ -190,4 +192,72 @@ impl<T, const D: usize, J: Judge<T>> IndexedHeap<T, D, J> {
         let made = f(&self.as_slice()[at].1);
         Some(self.replace(at, key, made))
     }
+
+    /// Changes the item of a key by a function, inside the heap. Returns `true` if the key has an item. If it has none, the
+    /// function isn't called, and nothing changes.
+    ///
+    /// The function is called once, and may leave any item. No other entry changes, and no room is used, so the call doesn't
+    /// fail. It takes as many comparisons as [`change`](IndexedHeap::change) at most.
+    ///
+    /// # Preconditions
+    ///
+    /// - If the key has an item, `f` may be called on it.
+    ///
+    /// # Examples
+    ///
+    /// ```
+    /// use indexed_heap::IndexedHeap;
+    /// let mut jobs = IndexedHeap::<_, 4>::new(alloc);
+    /// jobs.insert(3, (1, "wash"))?;
+    /// jobs.insert(8, (2, "cook"))?;
+    /// assert!(rt; jobs.update(3, |job| job.0 = 5));
+    /// assert!(rt; !jobs.update(4, |job| job.0 = 9));
+    /// assert_eq!(rt; jobs.pop(), Some((3, (5, "wash"))));
+    /// ```
+    pub fn update<F: FnOnce(&mut T)>(&mut self, key: usize, f: F) -> bool
+        requires { (item : T) → item_of key self.old.entries ≡ Some item
+            → FnOnceTakesAtMut F.FnOnce f item }
+        ensures updates { OnTrue result
+            (Updates F.FnOnce f key self.old.entries self.new.entries) }
+        ensures absent { OnFalse result (IsAbsent key self.old.entries) }
+        ensures len { length self.new.entries ≡ length self.old.entries }
+        ensures counted { (at : ℕ) → IsEntry self.old.entries at key
+            → RisesWithin self.old.comparisons self.new.comparisons
+            (fix_bound D (length self.old.entries) at) }
+        ensures sound { AreSound J.order D self.new.entries }
+        ensures capacity { self.new.capacity ≡ self.old.capacity }
+        ensures keys { self.new.keys ≡ self.old.keys }
+
+        // If the key has no item nothing changes.
+        ensures unchanged { OnFalse result (self.new ≡ self.old) }
+    {
+        let Some(at) = self.place_of(key) else {
+            return false;
+        };
+        let stop = self.entries.update_at_returning_place(
+            at,
+            |entry: &mut (usize, T)|
+                requires { FnOnceTakesAtMut F.FnOnce f entry.old.1 }
+                ensures key { entry.new.0 ≡ entry.old.0 }
+                ensures item { FnOnceReturnsAtMut F.FnOnce f entry.old.1 tt entry.new.1 }
+            { call_on_item(entry, f) },
+        );
+        write_moved::<T, D>(
+            self.entries.as_slice(),
+            self.places.as_mut_slice(),
+            at,
+            stop,
+        );
+        true
+    }
+}
+
+/// Calls a function on the item of an entry.
+#[inline(always)]
+fn call_on_item<T, F: FnOnce(&mut T)>(entry: &mut (usize, T), f: F)
+    requires { FnOnceTakesAtMut F.FnOnce f entry.old.1 }
+    ensures key { entry.new.0 ≡ entry.old.0 }
+    ensures item { FnOnceReturnsAtMut F.FnOnce f entry.old.1 tt entry.new.1 }
+{
+    f(&mut entry.1);
 }

@@ -40,7 +40,7 @@ fn write_path<T, const D: usize>(
 
 /// Writes the places of the entries that moved while one went from `at` to `stop`.
 #[inline(always)]
-fn write_moved<T, const D: usize>(
+pub(super) fn write_moved<T, const D: usize>(
     entries: &[(usize, T)],
     places: &mut [usize],
     at: usize,
@@ -99,7 +99,7 @@ impl<T, const D: usize, J: Judge<T>> IndexedHeap<T, D, J> {
     }
 
     /// Makes room for one more entry and for the place of a key. Fails if memory allocation fails, or if the key is
-    /// `usize::MAX`. It stands out of line: most calls have room.
+    /// `usize::MAX`. It stands out of line, since most heaps have the room.
     #[inline(never)]
     fn make_room(&mut self, key: usize) -> Result<(), AllocError>
         ensures entries { self.new.entries ≡ self.old.entries }
@@ -107,7 +107,7 @@ impl<T, const D: usize, J: Judge<T>> IndexedHeap<T, D, J> {
         ensures room { OnOk result (length self.new.entries < self.new.capacity) }
         ensures made { MakesRoomFor key self.old self.new.capacity self.new.keys (is_ok result) }
     {
-        // (both are called for their clauses: what is there has room)
+        // The prover learns from these two calls that the length is at most the capacity, and that no key is `usize::MAX`.
         let (_entries, _keys) = (self.capacity(), self.key_capacity());
         let Some(keys) = key.checked_add(1) else {
             return Err(AllocError);
@@ -115,7 +115,8 @@ impl<T, const D: usize, J: Judge<T>> IndexedHeap<T, D, J> {
         self.reserve(1, keys)
     }
 
-    /// The same, without a call if there is room.
+    /// Makes room for one more entry and for the place of a key, or does nothing if there is room. Fails as
+    /// [`make_room`](IndexedHeap::make_room) does.
     #[inline(always)]
     fn ensure_room(&mut self, key: usize) -> Result<(), AllocError>
         ensures entries { self.new.entries ≡ self.old.entries }
@@ -157,8 +158,8 @@ impl<T, const D: usize, J: Judge<T>> IndexedHeap<T, D, J> {
         Ok(())
     }
 
-    /// Puts another item into the entry of a key, and returns the one that was there. It stands out of line: a call for a
-    /// key that has none is shorter so.
+    /// Puts another item into the entry of a key, and returns the one that was there. It stands out of line, which keeps
+    /// the code of its callers short for a key without an entry.
     #[inline(never)]
     pub(super) fn replace(&mut self, at: usize, key: usize, item: T) -> T
         requires { IsEntry self.old.entries at key }
