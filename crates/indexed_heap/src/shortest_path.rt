@@ -4,7 +4,7 @@
 //! waits, it lowers the cost that the node waits with. So a node waits once at most, and all memory is allocated before
 //! the first step. [`shortest_walk_by_lowering`] returns the nodes of a cheapest walk too.
 ghost use Rattle.std.specs.List.{sum_by};
-ghost use Rattle.std.specs.Prelude.{set, slice_index_or, ◌≡◌, ◌+◌, ◌↔◌, ◌<◌, ◌≤◌, IsTrue, IfOk, IfErr, OnOk, OnErr, IfSome, IfNone, All, length};
+ghost use Rattle.std.specs.Prelude.{set, slice_get, slice_index_or, ◌≡◌, ◌+◌, ◌↔◌, ◌<◌, ◌≤◌, IsTrue, IfOk, IfErr, OnOk, OnErr, IfSome, IfNone, All, Some, length};
 ghost use Rattle.dary_heap.specs.Bounds.{RisesWithin, push_bound};
 ghost use Rattle.dary_heap.specs.Walk.{IsWithin, IsLeastCost, IsUnreached, HasCritical, NoneCriticalBelow};
 ghost use Rattle.dary_heap.specs.declared.shortest_path.PathRefusal.TheVariants.{CostTooLarge};
@@ -191,6 +191,8 @@ fn search<const D: usize, J: JudgesByOrd<usize>, const NOTES: bool>(
         (λ answer. IfNone answer (IsUnreached adj_list.now.items start goal)) }
     ensures uncritical { OnOk result (NoneCriticalBelow usize.MAX adj_list.now.items start goal) }
     ensures too_large { OnErr result (HasCritical usize.MAX adj_list.now.items start goal) }
+    ensures here { IfOk result (λ answer. IfSome answer
+        (λ cost. slice_get found.new goal ≡ Some cost)) }
     ensures back { IsTrue NOTES → IfOk result (λ answer. IfSome answer
         (λ cost. LeadsBack adj_list.now.items start goal cost before.new)) }
     ensures all_back { IsTrue NOTES → OnOk result

@@ -1,6 +1,6 @@
 -- Nodes that wait: no more than there are, and what a raise makes of them.
 use Rattle.dary_heap.proofs.Common.{◌≡◌, ◌≢◌, ◌⊎◌, ℕ, suc, ◌+◌, ◌<◌, ◌≤◌, inl, inr, List, [], ◌∷◌, ◌++◌, length, map, Contains, arith, refl, sym, ap, ◌∙◌, subst, get_or, get_or-set_same}
-use Rattle.dary_heap.proofs.Common.{get_or-set_other, cases_eq, set, length-set, length-map, length_permutation, IsPermutation-sym, IsSameBag, Option, Some, None, slice_get-get_or, nat_eq, false}
+use Rattle.dary_heap.proofs.Common.{get_or-set_other, cases_eq, set, slice_get, length-set, length-map, length_permutation, IsPermutation-sym, IsSameBag, Option, Some, None, slice_get-get_or, nat_eq, false}
 use Rattle.dary_heap.proofs.Common.{AllByRecursion, IsDistinct, IsDistinct-cons, ne_eqb, eqb-true, nat_cmp, true}
 use Rattle.dary_heap.proofs.Bags.{Contains-cases, came_first, came_later, came_cases}
 use Rattle.dary_heap.proofs.Callers.{All-mapped, nat_le_from_cmp}
@@ -132,6 +132,12 @@ module _ {limit : ℕ} {found : List ℕ} {old : Indexed ℕ} {new : List Entry}
 
   pub taken_exact : get_or found e.0 limit ≡ e.1
   taken_exact = ready.exact e (came_first e new old.entries back)
+
+-- the goal is taken
+pub found_here : {limit goal : ℕ} {found : List ℕ} {old : Indexed ℕ} {new : List Entry} {e : Entry} → IsReady limit found old → IsSameBag old.entries (e ∷ new) → e.0 ≡ goal →
+    slice_get found goal ≡ Some e.1
+found_here {limit} {goal} {found} {e = e} ready bag is =
+    slice_get-get_or found goal limit (subst (λ (v : ℕ). v < length found) is (taken_within ready bag)) ∙ ap Some (ap (λ (v : ℕ). get_or found v limit) (sym is) ∙ taken_exact ready bag)
 
 pub taken_ready : {limit : ℕ} {found : List ℕ} {old new : Indexed ℕ} {e : Entry} → IsReady limit found old → IsSameBag old.entries (e ∷ new.entries) → AreDistinct new.entries → HasSameRoom old new →
     IsReady limit found new

@@ -1,11 +1,12 @@
 -- Tables that lead back: what one names from a node on is one list, of fewer nodes than the table has; and a way with an edge more.
 use Rattle.dary_heap.proofs.Common.{◌≡◌, ◌≢◌, ℕ, ◌+◌, ◌<◌, inl, inr, List, [], ◌∷◌, ◌++◌, length, get_or, set, get_or_from_slice_get, append-nil, take, drop, take-append-drop, nil_from_length, ◌-◌, append_assoc, map-append, Contains, arith, refl, sym, ap, ◌∙◌, subst, slice_get, slice_get_within, Graph, HasEdge}
-use Rattle.dary_heap.proofs.Common.{AllByRecursion, IsDistinct, IsDistinct-cons, nat_eq, ne_eqb, false}
+use Rattle.dary_heap.proofs.Common.{AllByRecursion, IsDistinct, IsDistinct-IsPermutation, IsDistinct-cons, nat_eq, nat_eq_equiv, ne_eqb, false}
 use Rattle.dary_heap.proofs.Bags.{Contains-cases, Contains-first, Contains-later, holds_none}
 use Rattle.dary_heap.proofs.shortest_path.Searching.{cost_more, walk_more}
 use Rattle.dary_heap.specs.declared.shortest_path.Edge.{Edge}
 use Rattle.std.proofs.Common.{reverse}
 use Rattle.std.proofs.lemmas.List.{drop_all, reverse-append}
+use Rattle.std.proofs.lemmas.List.Sorted.{IsPermutation-reverse}
 use Rattle.std.proofs.lemmas.Grind.{drop-set_at}
 use Rattle.indexed_heap.proofs.shortest_path.Waiting.{distinct_few}
 use Rattle.indexed_heap.specs.Ways.{IsNamedFrom, IsWayOf}
@@ -38,7 +39,7 @@ module _ (before : List ℕ) (start : ℕ) where
   others v [] none = tt
   others v (u ∷ nodes) none = (ne_eqb v u (λ is. none (subst (λ (x : ℕ). Contains (u ∷ nodes) x) (sym is) (Contains-first u nodes))), others v nodes (λ in'. none (Contains-later u nodes v in')))
 
-  named_distinct : (v : ℕ) (nodes : List ℕ) → IsNamedFrom before start v nodes → IsDistinct nat_eq (v ∷ nodes)
+  pub named_distinct : (v : ℕ) (nodes : List ℕ) → IsNamedFrom before start v nodes → IsDistinct nat_eq (v ∷ nodes)
   unfolding IsDistinct
   named_distinct v [] h = IsDistinct-cons nat_eq v [] tt tt
   named_distinct v (u ∷ nodes) h = IsDistinct-cons nat_eq v (u ∷ nodes) (others v (u ∷ nodes) (not_named v (u ∷ nodes) h)) (named_distinct u nodes h.2)
@@ -93,6 +94,11 @@ way_more {g} {start} {v} {cost} {nodes} e h has = record {
   costs = omega (arith, cost_more h.walk e, h.costs);
   visits = ap (λ (l : List ℕ). l ++ e.node ∷ []) h.visits ∙ ap (λ (l : List ℕ). start ∷ l) (sym (map-append (λ (e : Edge). e.node) h.walk (e ∷ [])));
 }
+
+-- no node occurs twice in a way that is read from a table
+pub way_once : (before : List ℕ) (start goal : ℕ) (named : List ℕ) → IsNamedFrom before start goal named → IsDistinct nat_eq (reverse (goal ∷ named))
+way_once before start goal named h =
+    IsDistinct-IsPermutation nat_eq nat_eq_equiv.symm (goal ∷ named) (reverse (goal ∷ named)) (IsPermutation-reverse (goal ∷ named)) (named_distinct before start goal named h)
 
 pub reverse_first : (v : ℕ) (nodes more : List ℕ) → reverse (v ∷ nodes) ++ more ≡ reverse nodes ++ v ∷ more
 reverse_first v nodes more = ap (λ (l : List ℕ). l ++ more) (reverse-append (v ∷ []) nodes) ∙ append_assoc (reverse nodes) (v ∷ []) more

@@ -1,6 +1,6 @@
 //! Searches that return a cheapest walk, and not only its cost.
-ghost use Rattle.std.specs.List.{sum_by};
-ghost use Rattle.std.specs.Prelude.{[], ℕ, ◌≡◌, ◌+◌, ◌<◌, ◌≤◌, IfOk, IfErr, OnOk, OnErr, IsOk, IfSome, IfNone, List, length, vec_capacity};
+ghost use Rattle.std.specs.List.{IsDistinct, sum_by};
+ghost use Rattle.std.specs.Prelude.{[], ◌∷◌, ℕ, ◌≡◌, ◌+◌, ◌<◌, ◌≤◌, IfOk, IfErr, OnOk, OnErr, IsOk, IfSome, IfNone, List, Some, length, nat_eq, reverse, slice_get, vec_capacity};
 ghost use Rattle.dary_heap.specs.Bounds.{RisesWithin};
 ghost use Rattle.dary_heap.specs.Walk.{Graph, IsWithin, IsLeastCost, IsUnreached, HasCritical, NoneCriticalBelow};
 ghost use Rattle.dary_heap.specs.declared.shortest_path.PathRefusal.TheVariants.{CostTooLarge};
@@ -57,6 +57,7 @@ pub fn shortest_walk_by_lowering(
         (λ answer. IfSome answer (λ walk. IsLeastCost adj_list.now.items start goal walk.0)) }
     ensures way { IfOk result
         (λ answer. IfSome answer (λ walk. IsWayOf adj_list.now.items start goal walk.1.items walk.0)) }
+    ensures once { IfOk result (λ answer. IfSome answer (λ walk. IsDistinct nat_eq walk.1.items)) }
     ensures unreached { IfOk result
         (λ answer. IfNone answer (IsUnreached adj_list.now.items start goal)) }
     ensures uncritical { OnOk result (NoneCriticalBelow usize.MAX adj_list.now.items start goal) }
@@ -148,6 +149,8 @@ pub fn shortest_walk_by_lowering_within<const D: usize, J: JudgesByOrd<usize>>(
     requires keyed { length adj_list.now.items ≤ heap.old.keys }
     ensures least { IfOk result
         (λ answer. IfSome answer (IsLeastCost adj_list.now.items start goal)) }
+    ensures here { IfOk result (λ answer. IfSome answer
+        (λ cost. slice_get found.new goal ≡ Some cost)) }
     ensures back { IfOk result (λ answer. IfSome answer
         (λ cost. LeadsBack adj_list.now.items start goal cost before.new)) }
     ensures all_back { OnOk result (AllLeadBack usize.MAX adj_list.now.items start found.new before.new) }
@@ -199,8 +202,11 @@ pub fn walk_to(
 ) -> Result<(), AllocError>
     requires start { start < length before.now }
     requires back { ComesBack before.now start goal }
+    ensures read { (named : List ℕ) → IsNamedFrom before.now start goal named
+        → OnOk result (nodes.new.items ≡ reverse (goal ∷ named)) }
     ensures way { (g : Graph) (cost : ℕ) → LeadsBack g start goal cost before.now
         → OnOk result (IsWayOf g start goal nodes.new.items cost) }
+    ensures once { OnOk result (IsDistinct nat_eq nodes.new.items) }
     ensures empty { OnErr result (nodes.new.items ≡ []) }
     ensures capacity { vec_capacity nodes.old ≤ vec_capacity nodes.new }
     ensures succeeds { length before.now ≤ vec_capacity nodes.old → IsOk result }

@@ -6,7 +6,7 @@ use Rattle.indexed_heap.proofs.shortest_path.Counting.{counted_begins, counted_e
 use Rattle.indexed_heap.proofs.shortest_path.Lowering.{begins_alone, low_of, row_within, state_of, states_same}
 use Rattle.indexed_heap.proofs.shortest_path.Nearer.{nearer_all, nearer_goal}
 use Rattle.indexed_heap.proofs.shortest_path.Tracing.{traced_all, traced_begins, traced_goal, traced_more}
-use Rattle.indexed_heap.proofs.shortest_path.Waiting.{same_room, taken_exact, taken_ready}
+use Rattle.indexed_heap.proofs.shortest_path.Waiting.{found_here, same_room, taken_exact, taken_ready}
 use Rattle.indexed_heap.proofs.shortest_path.search.Goals.{In_default}
 use Rattle.indexed_heap.proofs.shortest_path.search.Goals as goal
 
@@ -43,6 +43,11 @@ returns-then-node-goal-clause-all_back g c on = traced_all (c.loop-node.invarian
 
 pub returns-clause-all_back : goal.returns-clause-all_back
 returns-clause-all_back g c on = traced_all (c.loop-node.invariant.traced on)
+
+pub returns-then-node-goal-clause-here : goal.returns-then-node-goal-clause-here
+returns-then-node-goal-clause-here g c =
+    let ready = c.loop-node.invariant.ready in
+    found_here ready c.in-Some.ensures.bag c.if-node-goal.true
 
 pub returns-then-node-goal-clause-nearer : goal.returns-then-node-goal-clause-nearer
 returns-then-node-goal-clause-nearer g c =
