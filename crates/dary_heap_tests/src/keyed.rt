@@ -3,9 +3,7 @@
 use crate::{Host, Tested, same};
 use dary_heap::shortest_path::{Edge, PathRefusal, shortest_path};
 use dary_heap::sift::{ByOrd, LeastFirst, Tally};
-use indexed_heap::shortest_path::{
-    CostHeap, is_graph, shortest_path_by_lowering, shortest_path_by_lowering_within,
-};
+use indexed_heap::shortest_path::{CostHeap, is_graph, shortest_path_nodes, shortest_paths_into};
 use indexed_heap::{IndexedHeap, Iter};
 use std::default::MadeWith;
 use std::mem;
@@ -165,14 +163,15 @@ fn finds(
     assert!(rt; is_graph(graph));
     assert!(rt; start < graph.len());
     same(rt, shortest_path(alloc, graph, start, goal), answer);
-    let lowered = shortest_path_by_lowering(alloc, graph, start, goal);
-    same(rt, lowered, answer);
+    let path = shortest_path_nodes(alloc, graph, start, goal);
+    same(rt, path.map(|path| path.map(|(cost, _)| cost)), answer);
     let nodes = graph.len();
-    let mut found = vec![in alloc; 0; nodes]?;
+    let mut dist = vec![in alloc; 0; nodes]?;
+    let mut prev = vec![in alloc; 0; nodes]?;
     let mut heap = CostHeap::<2>::with_judge(alloc, LeastFirst(ByOrd::new()));
     heap.reserve(nodes, nodes)?;
-    let kept = shortest_path_by_lowering_within(graph, start, goal, &mut found, &mut heap);
-    same(rt, kept.ok(), answer.ok());
+    let kept = shortest_paths_into(graph, start, goal, &mut dist, &mut prev, &mut heap);
+    same(rt, kept, answer);
     Ok(())
 }
 

@@ -24,37 +24,37 @@ abbrev pub states : List (ℕ × ℕ) → List State
 states entries = map (λ entry. state entry.1 entry.0) entries
 
 -- the heap has room for each node, and what waits are nodes, none of them twice, each with the cost found for it
-pub record IsReady (limit : ℕ) (found : List ℕ) (heap : Indexed ℕ) : Type 0 where
-  pub room : length found ≤ heap.capacity
-  pub keyed : length found ≤ heap.keys
+pub record IsReady (limit : ℕ) (dist : List ℕ) (heap : Indexed ℕ) : Type 0 where
+  pub room : length dist ≤ heap.capacity
+  pub keyed : length dist ≤ heap.keys
   pub distinct : AreDistinct heap.entries
-  pub within : (e : ℕ × ℕ) → Contains heap.entries e → e.0 < length found
-  pub exact : (e : ℕ × ℕ) → Contains heap.entries e → slice_index_or found e.0 limit ≡ e.1
+  pub within : (e : ℕ × ℕ) → Contains heap.entries e → e.0 < length dist
+  pub exact : (e : ℕ × ℕ) → Contains heap.entries e → slice_index_or dist e.0 limit ≡ e.1
 
 -- the node waits with this cost, in place of the one that it waited with, if any
 abbrev pub Waits : ℕ → ℕ → List (ℕ × ℕ) → List (ℕ × ℕ) → Type 0
 Waits node cost old new = (given : Option ℕ) × Gets node cost old given new
 
--- the edges of a node that costs so much were examined: found and waiting before, lower and after then
+-- the edges of a node that costs so much were examined: dist and waiting were the costs found and what waited, lower and after are
 abbrev pub Lowers : ℕ → ℕ → List Edge → List ℕ → List (ℕ × ℕ) → List ℕ → List (ℕ × ℕ) → Type 0
-Lowers limit cost edges found waiting lower after = Relaxes limit cost edges found (states waiting) lower (states after)
+Lowers limit cost edges dist waiting lower after = Relaxes limit cost edges dist (states waiting) lower (states after)
 
 -- what was found for v stays, and so does what is written beside it
-pub record IsKept (limit v : ℕ) (found before lower after : List ℕ) : Type 0 where
-  pub cost : slice_index_or lower v limit ≡ slice_index_or found v limit
-  pub node : slice_get after v ≡ slice_get before v
+pub record IsKept (limit v : ℕ) (dist prev lower after : List ℕ) : Type 0 where
+  pub cost : slice_index_or lower v limit ≡ slice_index_or dist v limit
+  pub node : slice_get after v ≡ slice_get prev v
 
 -- the cost of v fell to that over one of the edges, which leave the node, and the node is written beside it
-pub record IsNoted (limit node cost : ℕ) (edges : List Edge) (v : ℕ) (found lower after : List ℕ) : Type 0 where
+pub record IsNoted (limit node cost : ℕ) (edges : List Edge) (v : ℕ) (dist lower after : List ℕ) : Type 0 where
   pub edge : Edge
   pub stands : Contains edges edge
   pub ends : v ≡ edge.node
   pub falls_to : slice_index_or lower v limit ≡ cost + edge.cost
-  pub falls : cost + edge.cost < slice_index_or found v limit
+  pub falls : cost + edge.cost < slice_index_or dist v limit
   pub noted : slice_get after v ≡ Some node
 
--- edges of a node that costs so much were examined, and the node was written for each end whose cost fell: found and before were the tables, lower and after are
-pub record Notes (limit node cost : ℕ) (edges : List Edge) (found before lower after : List ℕ) : Type 0 where
-  pub same : length after ≡ length before
+-- edges of a node that costs so much were examined, and the node was written for each end whose cost fell: dist and prev were the tables, lower and after are
+pub record Notes (limit node cost : ℕ) (edges : List Edge) (dist prev lower after : List ℕ) : Type 0 where
+  pub same : length after ≡ length prev
   -- a cost and what is written beside it stay, or the cost fell to that over an edge, and the node is written
-  pub changes : (v : ℕ) → IsKept limit v found before lower after ⊎ IsNoted limit node cost edges v found lower after
+  pub changes : (v : ℕ) → IsKept limit v dist prev lower after ⊎ IsNoted limit node cost edges v dist lower after

@@ -12,24 +12,24 @@ pub record IsWayOf (g : Graph) (start goal : ℕ) (nodes : List ℕ) (cost : ℕ
 
 -- the table names these nodes one after another, the first for v, and the last is start, which is none of the others
 abbrev pub IsNamedFrom : List ℕ → ℕ → ℕ → List ℕ → Type 0
-IsNamedFrom before start v [] = v ≡ start
-IsNamedFrom before start v (u ∷ nodes) = (v ≢ start) × (slice_get before v ≡ Some u) × IsNamedFrom before start u nodes
+IsNamedFrom prev start v [] = v ≡ start
+IsNamedFrom prev start v (u ∷ nodes) = (v ≢ start) × (slice_get prev v ≡ Some u) × IsNamedFrom prev start u nodes
 
 -- read from v on, the table comes back to start
 abbrev pub ComesBack : List ℕ → ℕ → ℕ → Type 0
-ComesBack before start v = (nodes : List ℕ) × IsNamedFrom before start v nodes
+ComesBack prev start v = (nodes : List ℕ) × IsNamedFrom prev start v nodes
 
 -- v and the nodes that the table names from there, in reverse, are a way from start to v, of a walk that costs so much
-pub record LeadsBack (g : Graph) (start v cost : ℕ) (before : List ℕ) : Type 0 where
+pub record LeadsBack (g : Graph) (start v cost : ℕ) (prev : List ℕ) : Type 0 where
   pub nodes : List ℕ
-  pub named : IsNamedFrom before start v nodes
+  pub named : IsNamedFrom prev start v nodes
   pub way : IsWayOf g start v (reverse (v ∷ nodes)) cost
 
 -- the table leads back from each node with a cost found, over a walk of that cost
 abbrev pub AllLeadBack : ℕ → Graph → ℕ → List ℕ → List ℕ → Type 0
-AllLeadBack limit g start found before = (v : ℕ) → slice_index_or found v limit < limit → LeadsBack g start v (slice_index_or found v limit) before
+AllLeadBack limit g start dist prev = (v : ℕ) → slice_index_or dist v limit < limit → LeadsBack g start v (slice_index_or dist v limit) prev
 
 -- if walks to goal all cost more than the least cost of v, the cost found for v is that least cost, and below the limit
 abbrev pub FindsNearer : ℕ → Graph → ℕ → ℕ → List ℕ → Type 0
-FindsNearer limit g start goal found =
-    (v c : ℕ) → IsLeastCost g start v c → ((walk : List Edge) → IsWalk g start walk goal → c < cost_of walk) → (slice_index_or found v limit ≡ c) × (c < limit)
+FindsNearer limit g start goal dist =
+    (v c : ℕ) → IsLeastCost g start v c → ((walk : List Edge) → IsWalk g start walk goal → c < cost_of walk) → (slice_index_or dist v limit ≡ c) × (c < limit)

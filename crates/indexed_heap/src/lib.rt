@@ -52,7 +52,7 @@
 //! | [`lower`](IndexedHeap::lower), each entry of [`append`](IndexedHeap::append) | one more than `D` times the depth of the last place |
 //! | [`retain`](IndexedHeap::retain) | as `retain` of a `DaryHeap`, and none if it drops nothing |
 //! | [`pop`](IndexedHeap::pop), [`pop_if`](IndexedHeap::pop_if), [`remove`](IndexedHeap::remove) | `D` times the depth of the last place that remains: *O*(log *n*) |
-//! | [`shortest_path_by_lowering_within`](shortest_path::shortest_path_by_lowering_within), [`shortest_walk_by_lowering_within`](shortest_path::shortest_walk_by_lowering_within) | a `pop` for each node, and a `raise` for the start and each edge |
+//! | [`shortest_paths_into`](shortest_path::shortest_paths_into) | a `pop` for each node, and a `raise` for the start and each edge |
 //! | an item of [`into_iter_sorted`](IndexedHeap::into_iter_sorted) | as `pop` |
 //! | an item of [`iter_sorted`](IndexedHeap::iter_sorted), [`iter_sorted_with`](IndexedHeap::iter_sorted_with) | a pop and `D` pushes in a heap of arity 4 of the `1 + (D - 1) * k` that may come after `k` items |
 //! | `clone` of the trait `Clone`, for another judge than `ByOrd`; any `clone` of an [`IntoIterSorted`] | `2 * (n - 1)` |
@@ -60,7 +60,7 @@
 //!
 //! # Modules
 //!
-//! [`heap`] has the heap, [`iter`] its iterators, and [`shortest_path`] searches for a cheapest walk. The entries lie in
+//! [`heap`] has the heap, [`iter`] its iterators, and [`shortest_path`] searches for a shortest path. The entries lie in
 //! a heap of the crate `dary_heap`, beside a table of their places, in which each move of an entry is written down.
 #![tactic(auto)]
 

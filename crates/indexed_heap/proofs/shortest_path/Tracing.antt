@@ -1,8 +1,6 @@
 -- What a search notes: from each node with a cost found, the table leads back over nodes that cost no more than the last one that came out.
 use Rattle.dary_heap.proofs.Common.{◌≡◌, ℕ, ◌+◌, ◌<◌, ◌≤◌, inl, inr, List, [], ◌∷◌, ◌++◌, length, Contains, arith, refl, sym, ap, ◌∙◌, subst, get_or, get_or-set_same, get_or-set_other, set, length-set, replicate, length-replicate, Some, slice_get, Vec, Global, Graph, cases_eq}
-use mathlib.Core.Bool.{not}
-use lib.Dec.{eqb}
-use Rattle.dary_heap.proofs.Common.{IsTrue, Contains-append_left, Contains-append_right, Contains-push, IsSameBag, IsPermutation-sym, Relaxes}
+use Rattle.dary_heap.proofs.Common.{Contains-append_left, Contains-append_right, Contains-push, IsSameBag, IsPermutation-sym, Relaxes}
 use Rattle.dary_heap.specs.declared.shortest_path.State.{State}
 use Rattle.dary_heap.proofs.Bags.{Contains-cases, came_first, came_later, holds_none}
 use Rattle.dary_heap.proofs.Order.{slice_get-set_other, slice_get-set_same}
@@ -13,10 +11,6 @@ use Rattle.std.proofs.lemmas.List.{reverse-append}
 use Rattle.indexed_heap.proofs.shortest_path.Ways.{named_stays, way_more, way_self}
 use Rattle.indexed_heap.specs.Lowering.{IsKept, IsNoted, Notes}
 use Rattle.indexed_heap.specs.Ways.{AllLeadBack, IsWayOf, LeadsBack}
-
--- a const parameter is true, which is a number here
-abbrev pub IsOn : ℕ → Type 0
-IsOn flag = IsTrue (not (eqb flag 0))
 
 -- ---- edges that are examined one after another
 

@@ -3,7 +3,7 @@ use Rattle.std.proofs.lemmas.List.{take-replicate}
 use Rattle.indexed_heap.specs.Ways.{IsWayOf}
 use Rattle.dary_heap.proofs.Common.{◌∙◌, ◌++◌, ◌-◌, length-replicate, length-set, take-set-le, vec_len, ◌≡◌, ap, ℕ, ◌+◌, ◌<◌, List, length, arith, rules, refl, sym, subst, replicate, take, IsDistinct, nat_eq}
 use Rattle.indexed_heap.proofs.shortest_path.Ways.{IsReadDownTo, named_next, read_begins, read_ends, read_more, way_once}
-use Rattle.indexed_heap.proofs.shortest_path.walks.walk_to.Goals as goal
+use Rattle.indexed_heap.proofs.shortest_path.walks.path_to.Goals as goal
 
 pub loop-steps-init : goal.loop-steps-init
 loop-steps-init c =
@@ -17,7 +17,7 @@ loop-steps-init c =
       capacity = omega (arith, c.in_ok-resize.ensures.capacity, c.clear.ensures.capacity);
       within = omega (arith, long);
       first = ap (take 1) made ∙ take-replicate 1 (c.steps_back-steps.result + 1) c.args.start (omega arith);
-      read = λ nodes named. read_begins c.args.before.now c.args.start c.args.goal c.steps_back-steps.result c.resize.new.self.items nodes named (c.steps_back-steps.ensures.steps nodes named) long;
+      read = λ nodes named. read_begins c.args.prev.now c.args.start c.args.goal c.steps_back-steps.result c.resize.new.self.items nodes named (c.steps_back-steps.ensures.steps nodes named) long;
     }
 
 pub loop-steps-preserved : goal.loop-steps-preserved
@@ -28,26 +28,26 @@ loop-steps-preserved c =
       within = omega (arith, before.within, length-set c.loop-steps.nodes.items c.loop-steps.steps c.loop-steps.node);
       first = take-set-le 1 c.loop-steps.nodes.items c.loop-steps.steps c.loop-steps.node c.loop-steps-test.true ∙ before.first;
       read = λ nodes named.
-          read_more c.args.before.now c.args.start c.args.goal c.loop-steps.steps c.loop-steps.node c.loop-steps.nodes.items nodes c.loop-steps-test.true before.within (before.read nodes named);
+          read_more c.args.prev.now c.args.start c.args.goal c.loop-steps.steps c.loop-steps.node c.loop-steps.nodes.items nodes c.loop-steps-test.true before.within (before.read nodes named);
     }
 
-pub bounds-before-node : goal.bounds-before-node
-bounds-before-node c =
+pub bounds-prev-node : goal.bounds-prev-node
+bounds-prev-node c =
     let h = c.loop-steps.invariant.read c.requires.back.0 c.requires.back.1 in
-    (named_next c.args.before.now c.args.start c.loop-steps.node h.rest (omega (arith, h.left, c.loop-steps-test.true)) h.named).2
+    (named_next c.args.prev.now c.args.start c.loop-steps.node h.rest (omega (arith, h.left, c.loop-steps-test.true)) h.named).2
 
-pub offset_bounds-before-node : goal.offset_bounds-before-node
-offset_bounds-before-node c =
+pub offset_bounds-prev-node : goal.offset_bounds-prev-node
+offset_bounds-prev-node c =
     let h = c.loop-steps.invariant.read c.requires.back.0 c.requires.back.1 in
-    let inside : c.loop-steps.node < length c.args.before.now = (named_next c.args.before.now c.args.start c.loop-steps.node h.rest (omega (arith, h.left, c.loop-steps-test.true)) h.named).2 in
+    let inside : c.loop-steps.node < length c.args.prev.now = (named_next c.args.prev.now c.args.start c.loop-steps.node h.rest (omega (arith, h.left, c.loop-steps-test.true)) h.named).2 in
     search rules
 
 pub returns-clause-read : goal.returns-clause-read
 returns-clause-read c = λ named led.
     let place : c.loop-steps.steps ≡ 0 = omega (arith, c.loop-steps-test.false) in
     let read = c.loop-steps.invariant.read named led in
-    read_ends c.args.before.now c.args.start c.args.goal c.loop-steps.node c.loop-steps.nodes.items named c.loop-steps.invariant.first
-    (subst (λ (p : ℕ). IsReadDownTo c.args.before.now c.args.start c.args.goal p c.loop-steps.node c.loop-steps.nodes.items named) place read)
+    read_ends c.args.prev.now c.args.start c.args.goal c.loop-steps.node c.loop-steps.nodes.items named c.loop-steps.invariant.first
+    (subst (λ (p : ℕ). IsReadDownTo c.args.prev.now c.args.start c.args.goal p c.loop-steps.node c.loop-steps.nodes.items named) place read)
 
 pub returns-clause-way : goal.returns-clause-way
 returns-clause-way c = λ g cost led. subst (λ (l : List ℕ). IsWayOf g c.args.start c.args.goal l cost) (sym (returns-clause-read c led.nodes led.named)) led.way
@@ -55,7 +55,7 @@ returns-clause-way c = λ g cost led. subst (λ (l : List ℕ). IsWayOf g c.args
 pub returns-clause-once : goal.returns-clause-once
 returns-clause-once c =
     let back = c.requires.back in
-    subst (λ (l : List ℕ). IsDistinct nat_eq l) (sym (returns-clause-read c back.0 back.1)) (way_once c.args.before.now c.args.start c.args.goal back.0 back.1)
+    subst (λ (l : List ℕ). IsDistinct nat_eq l) (sym (returns-clause-read c back.0 back.1)) (way_once c.args.prev.now c.args.start c.args.goal back.0 back.1)
 
 pub returns-clause-capacity : goal.returns-clause-capacity
 returns-clause-capacity c = c.loop-steps.invariant.capacity

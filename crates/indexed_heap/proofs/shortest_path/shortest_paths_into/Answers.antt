@@ -7,19 +7,19 @@ use Rattle.indexed_heap.proofs.shortest_path.Lowering.{begins_alone, low_of, row
 use Rattle.indexed_heap.proofs.shortest_path.Nearer.{nearer_all, nearer_goal}
 use Rattle.indexed_heap.proofs.shortest_path.Tracing.{traced_all, traced_begins, traced_goal, traced_more}
 use Rattle.indexed_heap.proofs.shortest_path.Waiting.{found_here, same_room, taken_exact, taken_ready}
-use Rattle.indexed_heap.proofs.shortest_path.search.Goals.{In_default}
-use Rattle.indexed_heap.proofs.shortest_path.search.Goals as goal
+use Rattle.indexed_heap.proofs.shortest_path.shortest_paths_into.Goals.{In_default}
+use Rattle.indexed_heap.proofs.shortest_path.shortest_paths_into.Goals as goal
 
 pub loop-node-init : goal.loop-node-init
 loop-node-init g c =
-    let nothing = c.fill.ensures.after (λ y is. is) ∙ ap (λ (n : ℕ). replicate n 18446744073709551615) c.requires.long in
+    let nothing = c.fill.ensures.after (λ y is. is) ∙ ap (λ (n : ℕ). replicate n 18446744073709551615) c.requires.dist in
     let first = c.wait_at.ensures in
     record {
-      search = rw first.found (search_begins _ (lit< tt) refl c.requires.start nothing (begins_alone c.clear.ensures.entries first.waits));
-      traced = λ on. rw first.found (traced_begins (states c.wait_at.new.heap.entries) c.requires.start nothing (c.requires.noting on));
+      search = rw first.dist (search_begins _ (lit< tt) refl c.requires.start nothing (begins_alone c.clear.ensures.entries first.waits));
+      traced = rw first.dist (traced_begins (states c.wait_at.new.heap.entries) c.requires.start nothing c.requires.prev);
       ready = first.ready;
       room = same_room (record { capacity = c.clear.ensures.capacity; keys = c.clear.ensures.keys }) first.room;
-      counted = rw first.found (rw c.clear.ensures.uncounted at (counted_begins c.clear.new.self c.wait_at.new.heap c.requires.start nothing c.clear.ensures.entries first.waits first.counted));
+      counted = rw first.dist (rw c.clear.ensures.uncounted at (counted_begins c.clear.new.self c.wait_at.new.heap c.requires.start nothing c.clear.ensures.entries first.waits first.counted));
     }
 
 pub returns-then-node-goal-clause-least : goal.returns-then-node-goal-clause-least
@@ -33,16 +33,16 @@ returns-then-node-goal-clause-counted g c =
     counted_goal c.loop-node.invariant.counted c.pop.new.self c.loop-node.invariant.ready c.in-Some.ensures.bag c.loop-node.invariant.search.long c.in-Some.ensures.counted
 
 pub returns-then-node-goal-clause-back : goal.returns-then-node-goal-clause-back
-returns-then-node-goal-clause-back g c on =
+returns-then-node-goal-clause-back g c =
     let before = c.loop-node.invariant in
     let pop = c.in-Some.ensures in
-    traced_goal before.search (before.traced on) (states_same _ _ pop.bag) (taken_exact before.ready pop.bag) c.if-node-goal.true
+    traced_goal before.search before.traced (states_same _ _ pop.bag) (taken_exact before.ready pop.bag) c.if-node-goal.true
 
 pub returns-then-node-goal-clause-all_back : goal.returns-then-node-goal-clause-all_back
-returns-then-node-goal-clause-all_back g c on = traced_all (c.loop-node.invariant.traced on)
+returns-then-node-goal-clause-all_back g c = traced_all c.loop-node.invariant.traced
 
 pub returns-clause-all_back : goal.returns-clause-all_back
-returns-clause-all_back g c on = traced_all (c.loop-node.invariant.traced on)
+returns-clause-all_back g c = traced_all c.loop-node.invariant.traced
 
 pub returns-then-node-goal-clause-here : goal.returns-then-node-goal-clause-here
 returns-then-node-goal-clause-here g c =
@@ -66,7 +66,7 @@ relax-requires g c =
       grind arith,
       (
         row_within c.args.adj_list.now.items c.in-Some.node c.index.result.now c.requires.graph S.long row_is,
-        (taken_ready c.loop-node.invariant.ready pop.bag pop.sound.distinct (record { capacity = pop.capacity; keys = pop.keys }), λ on. (c.loop-node.invariant.traced on).long),
+        (taken_ready c.loop-node.invariant.ready pop.bag pop.sound.distinct (record { capacity = pop.capacity; keys = pop.keys }), c.loop-node.invariant.traced.long),
       ),
     )
 
@@ -84,7 +84,7 @@ loop-node-preserved g c =
     let row_is = row_read S bag c.index.result.now c.index.ensures in
     record {
       search = after_examining S bag c.if-node-goal.false (taken_exact before.ready pop.bag) _ row_is done.ok c.requires.graph;
-      traced = λ on. traced_more S (before.traced on) bag (taken_exact before.ready pop.bag) row_is (low_of _ _ (rw g.met.J.JudgesByOrd.by_ord at pop.greatest)) done.ok (done.noted on);
+      traced = traced_more S before.traced bag (taken_exact before.ready pop.bag) row_is (low_of _ _ (rw g.met.J.JudgesByOrd.by_ord at pop.greatest)) done.ok done.noted;
       ready = done.ready;
       room = same_room before.room (same_room (record { capacity = pop.capacity; keys = pop.keys }) done.room);
       counted = counted_more before.counted c.pop.new.self before.ready pop.bag S.long pop.counted _ row_is (low_of _ _ (rw g.met.J.JudgesByOrd.by_ord at pop.greatest)) done.ok done.counted;
@@ -107,10 +107,10 @@ returns-in_err-relax-clause-counted g c =
     (row_read before.search (states_same _ _ pop.bag) c.index.result.now c.index.ensures) c.in_err-relax.ensures.counted
 
 -- no node waits where the loop ends
-ended : (g : _) (c : In_default g) → IsSearch 18446744073709551615 c.args.adj_list.now.items c.args.start c.args.goal c.loop-node.found []
+ended : (g : _) (c : In_default g) → IsSearch 18446744073709551615 c.args.adj_list.now.items c.args.start c.args.goal c.loop-node.dist []
 ended g c =
     let empty = has_none c.loop-node.heap.entries (λ some. let no_entry = c.in_default.ensures.variant.1 some in cc) in
-    subst (λ (es : List (ℕ × ℕ)). IsSearch 18446744073709551615 c.args.adj_list.now.items c.args.start c.args.goal c.loop-node.found (states es)) empty c.loop-node.invariant.search
+    subst (λ (es : List (ℕ × ℕ)). IsSearch 18446744073709551615 c.args.adj_list.now.items c.args.start c.args.goal c.loop-node.dist (states es)) empty c.loop-node.invariant.search
 
 pub returns-clause-unreached : goal.returns-clause-unreached
 returns-clause-unreached g c = none_reached (ended g c)
