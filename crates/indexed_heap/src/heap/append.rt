@@ -20,8 +20,8 @@ impl<T, const D: usize, J: Judge<T>> IndexedHeap<T, D, J> {
     ///
     /// # Errors
     ///
-    /// Returns `AllocError` if memory allocation fails. The entries of both heaps are then as they were, and this heap has
-    /// as much room or more. It doesn't fail if there is room for the entries of both, and `key_capacity` isn't less than
+    /// Returns `AllocError` if memory allocation fails. The entries of both heaps are then as they were, no items were
+    /// compared, and this heap has as much room or more. It doesn't fail if there is room for the entries of both, and `key_capacity` isn't less than
     /// that of `other`.
     ///
     /// # Examples
@@ -49,7 +49,7 @@ impl<T, const D: usize, J: Judge<T>> IndexedHeap<T, D, J> {
         ensures sound { AreSound J.order D self.new.entries }
         ensures counted { RisesWithin self.old.comparisons self.new.comparisons (length other.old.entries
             * (sink_bound D (length self.old.entries + length other.old.entries) + 1)) }
-        ensures uncounted { other.new.comparisons ≡ other.old.comparisons }
+        ensures other_uncounted { other.new.comparisons ≡ other.old.comparisons }
         ensures capacity { self.old.capacity ≤ self.new.capacity }
         ensures kept { length self.old.entries + length other.old.entries ≤ self.old.capacity
             → self.new.capacity ≡ self.old.capacity }
@@ -65,6 +65,7 @@ impl<T, const D: usize, J: Judge<T>> IndexedHeap<T, D, J> {
             + length other.old.entries) ⊎ (self.old.keys < other.old.keys)) }
         ensures unchanged { OnErr result (self.new.entries ≡ self.old.entries) }
         ensures other_unchanged { OnErr result (other.new.entries ≡ other.old.entries) }
+        ensures uncounted { OnErr result (self.new.comparisons ≡ self.old.comparisons) }
     {
         self.reserve(other.len(), other.key_capacity())?;
         insert_all(self, &mut other.entries);

@@ -1,10 +1,10 @@
 //! Entries that leave a heap: that of a key, one with a greatest item, those that a predicate rejects, or all.
-ghost use Rattle.std.specs.Prelude.{◌≡◌, ℕ, ◌+◌, ◌-◌, ◌<◌, ◌≤◌, ◌↔◌, [], ◌∷◌, length, slice_get, Some, None, Bool, is_some, IsSome, IfSome, IfNone, if◌then◌else◌};
+ghost use Rattle.std.specs.Prelude.{◌≡◌, ℕ, ◌+◌, ◌-◌, ◌<◌, ◌≤◌, ◌⊎◌, ◌↔◌, [], ◌∷◌, length, slice_get, Some, None, Bool, is_some, IsSome, IfSome, IfNone, if◌then◌else◌};
 ghost use Rattle.dary_heap.specs.Bag.{IsSameBag, IsGreatest};
 ghost use Rattle.dary_heap.specs.Bounds.{RisesWithin, pop_bound};
 ghost use Rattle.dary_heap.specs.Filtering.{IsRetained};
 ghost use Rattle.indexed_heap.specs.Entries.{AreSound, IsAbsent, Loses, MayAnswer, MayAsk, by_item, item_of};
-ghost use Rattle.indexed_heap.specs.Filtering.{CalledAtEntry};
+ghost use Rattle.indexed_heap.specs.Filtering.{CalledAtEntry, TakesEntriesInTurn, TakesEntry};
 ghost use Rattle.indexed_heap.specs.Iterating.{contents};
 
 use super::IndexedHeap;
@@ -154,7 +154,7 @@ impl<T, const D: usize, J: Judge<T>> IndexedHeap<T, D, J> {
     ///
     /// # Preconditions
     ///
-    /// - `f` may be called on anything, and again after each call.
+    /// - `f` may be called on each entry in turn, in the order of the slice, whatever it returns.
     ///
     /// # Examples
     ///
@@ -171,7 +171,7 @@ impl<T, const D: usize, J: Judge<T>> IndexedHeap<T, D, J> {
     pub fn retain<F: FnMut(usize, &T) -> bool>(&mut self, mut f: F)
     where
         T: Drop,
-        requires { F.IsAlwaysCallable f }
+        requires { F.IsAlwaysCallable f ⊎ TakesEntriesInTurn F.FnMut f self.old.entries }
         ensures retained { IsRetained (CalledAtEntry F.FnMut) D f (contents self.old)
             (contents self.new) }
         ensures len { length self.new.entries ≤ length self.old.entries }
@@ -181,7 +181,7 @@ impl<T, const D: usize, J: Judge<T>> IndexedHeap<T, D, J> {
     {
         self.entries.retain(
             |entry: &(usize, T)| -> bool
-                requires { F.IsAlwaysCallable f }
+                requires { TakesEntry F.FnMut f entry.now }
                 ensures { CalledAtEntry F.FnMut f.entry entry.now result f.exit }
             { f(entry.0, &entry.1) },
         );

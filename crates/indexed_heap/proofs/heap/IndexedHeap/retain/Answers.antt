@@ -1,10 +1,14 @@
-use Rattle.dary_heap.proofs.Common.{rules, inl}
-use Rattle.indexed_heap.proofs.Filtering.{inner_always, inner_returns, kept_keys}
+use Rattle.dary_heap.proofs.Common.{rules, inl, inr}
+use Rattle.indexed_heap.proofs.Filtering.{entries_in_turn, inner_may, inner_returns, kept_keys}
 use Rattle.indexed_heap.proofs.Sound.{sound}
+use Rattle.indexed_heap.specs.Filtering.{TakesEntriesInTurn}
 use Rattle.indexed_heap.proofs.heap.IndexedHeap.retain.Goals as goal
 
 pub retain-requires : goal.retain-requires
-retain-requires g c = (search rules, inl (inner_always g.F.FnMut (λ p. p.0.now) _ c.requires (λ p shown h. h) (λ p shown answer q h. h.met.1)))
+retain-requires g c =
+    let entries = c.self.inside.entries.items in
+    let in_turn : TakesEntriesInTurn g.F.FnMut c.args.f entries = elim c.requires [ inl always ↦ entries_in_turn g.F.FnMut c.args.f entries always | inr in_turn ↦ rw (← c.self.view_is) at in_turn ] in
+    (search rules, inner_may g.F.FnMut entries (λ p. p.0.now) (λ p shown answer q h. h.met.1) (λ p shown h. h) in_turn)
 
 pub returns-clause-retained : goal.returns-clause-retained
 returns-clause-retained g c =
