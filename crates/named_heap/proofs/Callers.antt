@@ -1,7 +1,9 @@
 -- What callers need besides the contracts: the entries read as a map, and what each change of them makes of it.
-use Rattle.dary_heap.proofs.Common.{◌≡◌, Bool, true, false, List, ◌∷◌, ◌++◌, refl, sym, ap, ◌∙◌, inl, inr, Option, Some, None, is_some, if◌then◌else◌, true≢false, Contains, Contains-permutation}
+use denote.Ref.{Bor}
+use Rattle.dary_heap.proofs.Common.{◌≡◌, ◌≢◌, Bool, true, false, List, ◌∷◌, ◌++◌, refl, sym, ap, ◌∙◌, inl, inr, Option, Some, None, is_some, if◌then◌else◌, true≢false, Contains, Contains-permutation}
 use Rattle.dary_heap.proofs.Common.{IsPermutation, IsPermutation-sym, IsDistinct-IsPermutation}
-use Rattle.dary_heap.proofs.Callers.{Contains-cases, Contains-later}
+use Rattle.dary_heap.proofs.Common.{subst, slice_get, Ordering, Greater, IsGreatest}
+use Rattle.dary_heap.proofs.Callers.{Contains-cases, Contains-later, front_cases, holds_none, pop_if_no}
 use Rattle.std.proofs.lemmas.List.Sorted.{IsPermutation-map}
 use Rattle.std.proofs.lemmas.Map.{lookup-none}
 use Rattle.std.proofs.lemmas.Map.Entries.{lookup_from_place, none_past_head, place_from_lookup}
@@ -10,7 +12,7 @@ use Rattle.std.specs.Cmp.{IsEquivalence}
 use Rattle.std.specs.List.{IsDistinct}
 use Rattle.std.specs.Map.{IsKeyTest, keys_of, lookup}
 use Rattle.indexmap.proofs.MapLemmas.{lookup_permutation}
-use Rattle.named_heap.specs.Entries.{Gets, entries_of}
+use Rattle.named_heap.specs.Entries.{Gets, by_item, entries_of}
 use Rattle.named_heap.proofs.Naming.{contains_at}
 
 module _ {K T : Type 0} {eq : K → K → Bool} (laws : IsEquivalence eq) where
@@ -91,3 +93,19 @@ module _ {K T : Type 0} {eq : K → K → Bool} (laws : IsEquivalence eq) where
         let not_it : eq other entry.0 ≡ false = laws.symm other entry.0 ∙ apart in
         let skipped : lookup (eq other) (entry ∷ new) ≡ lookup (eq other) new = ap (λ (b : Bool). if b then Some entry.1 else lookup (eq other) new) not_it in
         sym skipped ∙ sym (lookup_permutation laws (entry ∷ new) old (IsPermutation-sym old (entry ∷ new) bag) once (eq other) (laws.congr other))
+
+module _ {K T : Type 0} (Gives : Bor K → Bor T → Bool → Type 0) (entries : List (K × T)) where
+  abbrev pub Answers : K × T → Bool → Type 0
+  Answers entry answer = (name : Bor K) × (item : Bor T) × Gives name item answer × (name.now ≡ entry.0) × (item.now ≡ entry.1)
+
+  -- if nothing came out of a `pop_if`, what its predicate says of an item at `false` holds of each, if it holds of what comes later too
+  pub none_popped : {cmp : T → T → Ordering} → ((entry : K × T) → slice_get entries 0 ≡ Some entry → (answer : Bool) × Answers entry answer × (None ≡ (if answer then Some entry else None))) →
+      ((entry : K × T) → slice_get entries 0 ≡ Some entry → IsGreatest (by_item cmp) entries entry) → (Later : T → Type 0) →
+      ((name : Bor K) (item : Bor T) → Gives name item false → Later item.now) → ((x y : T) → cmp y x ≢ Greater → Later x → Later y) →
+      (entry : K × T) → Contains entries entry → Later entry.1
+  none_popped asked shown Later says on entry in' = elim (front_cases entries) [
+    | inl empty ↦ absurd (holds_none entry (subst (λ (l : List (K × T)). Contains l entry) empty in'))
+    | inr first ↦
+        let no = pop_if_no Answers entries asked first.0 first.1 in
+        on first.0.1 entry.1 ((shown first.0 first.1).none_above entry in') (subst Later no.4 (says no.0 no.1 no.2))
+  ]

@@ -8,3 +8,4 @@ pub mod Iterating
 pub mod Naming
 pub mod Numbering
 pub mod Popping
+pub mod Storing

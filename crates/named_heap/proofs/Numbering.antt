@@ -4,7 +4,7 @@ use Rattle.dary_heap.proofs.Common.{slice_get-get_or, slice_get_within, cases_eq
 use Rattle.dary_heap.proofs.Common.{Contains, IsPermutation, Ordering, RisesWithin, fix_bound, push_bound, length-append}
 use Rattle.dary_heap.proofs.Cancelling.{IsPermutation-flat_map}
 use Rattle.dary_heap.proofs.Order.{slice_get-append, slice_get-push}
-use Rattle.dary_heap.proofs.Common.{false, if◌then◌else◌, OnFalse, length_permutation}
+use Rattle.dary_heap.proofs.Common.{false, if◌then◌else◌, OnFalse}
 use Rattle.indexed_heap.proofs.AsMap.{Gets-given, item_of-has, none_there}
 use Rattle.indexmap.specs.IndexSet.{IndexSet, insert_key, spare}
 use Rattle.std.specs.Prelude.{IsSome, max}
@@ -17,7 +17,10 @@ use Rattle.indexed_heap.proofs.AsMap.{Gets-here, Gets-others, item_of-none}
 use Rattle.indexed_heap.specs.Entries as idx
 use Rattle.indexed_heap.specs.Entries.{Indexed, IsEntry, item_of}
 use Rattle.named_heap.specs.Entries.{Gets, InsertsWithin, IsReached, Raises, entries_of}
-use Rattle.named_heap.specs.Names.{AreKeyed, AreNamed, HasRoomFor, Numbers, entry_of, named, room_of}
+use Rattle.named_heap.specs.Names.{AreKeyed, AreNamed, HasRoomFor, Numbers, entry_of, named, room_of, seen}
+use Rattle.named_heap.specs.Storing.{Stores}
+use Rattle.named_heap.proofs.Storing.{stores_it, stores_nothing}
+use Rattle.std.specs.declared.result.Result.TheVariants.{Ok, Err}
 use Rattle.named_heap.proofs.Counting.{entry_of_name}
 use Rattle.named_heap.proofs.Naming.{alone, contains_at, keyed_from, keyed_later, length-named, lookup-named, lookup-none, lookup_missing, named_first, named_from, named_there, none_passes}
 
@@ -44,11 +47,6 @@ numbered {K} {eq} name key names more keys inside k there same = by (list_any (e
         let at_last : slice_get (names ++ name ∷ []) key ≡ Some name = ap (slice_get (names ++ name ∷ [])) last ∙ slice_get-push names name in
         let is_name : k ≡ name = cc in
         record { stored = k; there = there; same = same; either = inr (shape, is_name, last, is) }
-
--- there is one entry more at most
-pub length_gets : {T : Type 0} (key : ℕ) (item : T) (old new : List (ℕ × T)) (given : Option T) → idx.Gets key item old given new → length new ≤ length old + 1
-length_gets key item old new None gets = omega (arith, length_permutation ((key, item) ∷ old) new gets.bag)
-length_gets key item old new (Some x) gets = omega (arith, length_permutation ((key, item) ∷ old) ((key, x) ∷ new) gets.bag)
 
 module _ {K T : Type 0} {eq : K → K → Bool} {cmp : T → T → Ordering} {D : ℕ} (laws : IsEquivalence eq) (name : K) (key : ℕ) (names more : List K) (n : Numbers eq name key names more)
     (old : List (ℕ × T)) (h : AreNamed eq cmp D names old) where
@@ -206,10 +204,6 @@ module _ {K T : Type 0} {eq : K → K → Bool} {cmp : T → T → Ordering} {D 
       λ i. named (same_names reached.0.held reached.0.has i) (reached.1 i),
     )
 
-    pub length_raised : (b : Bool) → OnTrue b (idx.Raises (idx.by_item order) key item old new) → OnFalse b (idx.IsReached (idx.by_item order) key item old × (new ≡ old)) → length new ≤ length old + 1
-    length_raised true raised reached = length_gets key item old new raised.given raised.gets
-    length_raised false raised reached = (let long : length new ≡ length old = ap (λ (l : List (ℕ × T)). length l) reached.1 in omega (arith, long))
-
 -- a name that has an item keeps the room: its number is there, and so is its entry
 module _ {K T S : Type 0} {eq : K → K → Bool} {cmp : T → T → Ordering} {D : ℕ} (laws : IsEquivalence eq) (name : K) (key : ℕ) (names more : IndexSet K S) (n : Numbers eq name key names.keys more.keys)
     (old mid new : Indexed T) (h : AreNamed eq cmp D names.keys old.entries) where
@@ -241,3 +235,30 @@ module _ {K T S : Type 0} {eq : K → K → Bool} {cmp : T → T → Ordering} {
       by : (b : Bool) → list_any (eq name) names.keys ≡ b → list_any (eq name) names.keys ≡ true
       by true is = is
       by false is = absurd (true≢false (sym some ∙ ap is_some (lookup_missing names.keys old.entries h laws (eq name) is)))
+
+-- the calls that number a name, and then store its item
+module _ {K T S : Type 0} {eq : K → K → Bool} {cmp : T → T → Ordering} {D : ℕ} (laws : IsEquivalence eq) (name : K) (item : T) (names more : IndexSet K S)
+    (old mid : Indexed T) (h : AreNamed eq cmp D names.keys old.entries) (spared : spare names ≤ spare more + 1) (capacity : old.capacity ≤ mid.capacity) (keys : old.keys ≤ mid.keys)
+    (entries : mid.entries ≡ old.entries) where
+  stayed : length mid.entries ≡ length old.entries
+  stayed = ap (λ (l : List (ℕ × T)). length l) entries
+
+  -- a name without a number stores nothing
+  pub not_numbered : {A : Type 0} (back : K) → back ≡ name → list_any (eq name) names.keys ≡ false → (0 < room_of names old → false ≡ true) → more.keys ≡ names.keys →
+      mid.comparisons ≡ old.comparisons → Stores {A = A} eq name item (seen names old) (seen more mid) (Err (back, item))
+  not_numbered back is absent full same uncounted =
+      let long : length more.keys ≡ length names.keys = ap (λ (l : List K). length l) same in
+      stores_nothing name item (seen names old) (seen more mid) (back, item) (ap (λ (k : K). (k, item)) is) (lookup_missing names.keys old.entries h laws (eq name) absent)
+      (λ some. true≢false (sym (full some))) (λ i. named (same i) (entries i)) uncounted (omega (arith, long, stayed, spared, capacity, keys))
+
+  -- and what is stored for its number is stored for the name
+  pub numbered_stores : {A : Type 0} (key : ℕ) → Numbers eq name key names.keys more.keys → (new : Indexed T) → (list_any (eq name) names.keys ≡ true → (more ≡ names) × (mid ≡ old)) →
+      length new.entries ≡ length mid.entries + (if is_some (item_of key mid.entries) then 0 else 1) → mid.capacity ≤ new.capacity → mid.keys ≤ new.keys →
+      ((at : ℕ) → IsEntry mid.entries at key → new.capacity ≡ mid.capacity) → new.keys ≡ max mid.keys (key + 1) → (given : A) →
+      Stores eq name item (seen names old) (seen more new) (Ok given)
+  numbered_stores key n new kept len grown wider roomy widened given =
+      let one : (b : Bool) → (if b then 0 else 1) ≤ 1 = elim [ true ↦ omega arith | false ↦ omega arith ] in
+      let few = one (is_some (item_of key mid.entries)) in
+      let long = length_more laws name key names.keys more.keys n old.entries h in
+      stores_it name item (seen names old) (seen more new) given (omega (arith, few, long, len, stayed, spared, capacity, keys, grown, wider))
+      (same_room laws name key names more n old mid new h kept len roomy widened)

@@ -1,3 +1,4 @@
 pub mod Entries
 pub mod Iterating
 pub mod Names
+pub mod Storing

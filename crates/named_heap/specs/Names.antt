@@ -5,6 +5,7 @@ use Rattle.std.specs.declared.cmp.Ordering.{Ordering}
 use Rattle.indexmap.specs.IndexSet.{IndexSet, spare}
 use Rattle.indexed_heap.specs.Entries.{Indexed, IsAbsent, item_of}
 use Rattle.indexed_heap.specs.Entries as idx
+use Rattle.named_heap.specs.Entries.{Named}
 
 -- the entry of a number, if it is that of a name
 abbrev pub entry_of : {K T : Type 0} → Option K → T → List (K × T)
@@ -22,6 +23,10 @@ AreKeyed {T = T} names entries = (p : ℕ) (e : ℕ × T) → slice_get entries 
 -- how many more names there is room for
 abbrev pub room_of : {K T S : Type 0} → IndexSet K S → Indexed T → ℕ
 room_of names heap = min (spare names) (min (heap.capacity - length heap.entries) (heap.keys - length names.keys))
+
+-- what a clause sees of them
+abbrev pub seen : {K T S : Type 0} → IndexSet K S → Indexed T → Named K T
+seen names heap = record { entries = named names.keys heap.entries; room = room_of names heap; comparisons = heap.comparisons }
 
 module _ {K T : Type 0} (eq : K → K → Bool) (cmp : T → T → Ordering) (D : ℕ) (names : List K) where
   -- the numbers of the names are the keys of the entries

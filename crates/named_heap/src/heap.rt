@@ -71,15 +71,11 @@ pub struct NamedHeap<
 impl<K: Eq + Hash, T, const D: usize, J: Judge<T>, S: BuildHasher> Model
     for NamedHeap<K, T, D, J, S> {
     ghost use Rattle.named_heap.specs.Entries.{Named};
-    ghost use Rattle.named_heap.specs.Names.{AreNamed, named, room_of};
+    ghost use Rattle.named_heap.specs.Names.{AreNamed, seen};
 
     ghost Value = { Named K T };
 
-    ghost view = { λ heap. record {
-      entries = named heap.names.keys heap.heap.entries;
-      room = room_of heap.names heap.heap;
-      comparisons = heap.heap.comparisons;
-    } };
+    ghost view = { λ heap. seen heap.names heap.heap };
 
     ghost invariant = { λ heap. AreNamed K.eq J.order D heap.names.keys heap.heap.entries };
 }

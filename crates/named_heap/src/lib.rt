@@ -54,8 +54,8 @@
 //! # Room
 //!
 //! [`reserve`](NamedHeap::reserve) makes room for new names, and [`room`](NamedHeap::room) says for how many more there
-//! is: so many inserts allocate no memory, and don't fail. An insert uses one place at most, and no call but a shrink
-//! makes the room less otherwise. But a name that leaves needn't give its place back, since the hash table may win it
+//! is: so many inserts don't fail. An insert of a new name uses one place at most, one of a name that is there none, and no
+//! call but a shrink makes the room less otherwise. But a name that leaves needn't give its place back, since the hash table may win it
 //! back only when it is built anew. So an insert after a `pop` may have to allocate, also if there were never more
 //! entries than were reserved. What has a bound on its memory keeps some room beyond, and calls `reserve` where a failure
 //! does no harm; [`clear`](NamedHeap::clear) loses no place.

@@ -34,8 +34,7 @@ impl<K: Eq + Hash + Drop, T: Ord + Drop, const D: usize> NamedHeap<K, T, D> {
 }
 
 impl<K: Eq + Hash, T, const D: usize, J: Judge<T>, S: BuildHasher> NamedHeap<K, T, D, J, S> {
-    /// Returns the number of new names that there is room for: so many inserts allocate no memory, and don't fail.
-    /// Takes *O*(1).
+    /// Returns the number of new names that there is room for: so many inserts don't fail. Takes *O*(1).
     ///
     /// A name that leaves needn't give its place back ([more](crate#room)).
     ///
@@ -58,7 +57,7 @@ impl<K: Eq + Hash, T, const D: usize, J: Judge<T>, S: BuildHasher> NamedHeap<K, 
 
     /// Reserves room for at least `additional` more names.
     ///
-    /// After `Ok` that many inserts allocate no memory, and don't fail. If there is room already, the call does nothing.
+    /// After `Ok` that many inserts don't fail. If there is room already, the call does nothing.
     ///
     /// A removal needn't give the place of its name back: only a call that allocates or [`clear`](NamedHeap::clear) does.
     /// So a heap that is emptied and filled by turns within the room that it had at first may need more

@@ -1,11 +1,12 @@
 //! Calls that give a name an item.
-ghost use Rattle.std.specs.Prelude.{◌≡◌, ◌≢◌, ℕ, ◌+◌, ◌<◌, ◌≤◌, true, false, length, slice_get, is_some, IsSome, IfSome, IfNone, IfOk, IfErr, OnErr, OnOk, IsOk, Some, if◌then◌else◌};
+ghost use Rattle.std.specs.Prelude.{◌≡◌, ℕ, ◌+◌, true, false, length, slice_get, is_some, IfSome, IfNone, IfOk, OnOk, Some, if◌then◌else◌};
 ghost use Rattle.std.specs.Bool.{OnTrue, OnFalse};
 ghost use Rattle.std.specs.Fn.{FnOnceReturnsAt, FnOnceTakesAt};
 ghost use Rattle.std.specs.Map.{lookup};
 ghost use Rattle.std.specs.Ordering.{flip_args};
 ghost use Rattle.dary_heap.specs.Bounds.{RisesWithin, fix_bound, push_bound, sink_bound};
 ghost use Rattle.named_heap.specs.Entries.{AreSound, Changes, Gets, InsertsWithin, IsReached, Raises};
+ghost use Rattle.named_heap.specs.Storing.{Stores};
 
 use super::NamedHeap;
 use crate::names::number;
@@ -49,15 +50,9 @@ impl<K: Eq + Hash + Drop, T, const D: usize, J: Judge<T>, S: BuildHasher> NamedH
         ensures counted { OnOk result (InsertsWithin K.eq name D self.old.entries self.old.comparisons
             self.new.comparisons) }
         ensures sound { AreSound K.eq J.order D self.new.entries }
-        ensures room { self.old.room ≤ self.new.room + 1 }
-        ensures roomy { IsSome (lookup (K.eq name) self.old.entries) → self.new.room ≡ self.old.room }
 
-        // It can't fail if there is room, or the name has an item.
-        ensures succeeds { 0 < self.old.room → IsOk result }
-        ensures present { IsSome (lookup (K.eq name) self.old.entries) → IsOk result }
-        ensures returned { IfErr result (λ back. back ≡ (name, item)) }
-        ensures unchanged { OnErr result (self.new.entries ≡ self.old.entries) }
-        ensures uncounted { OnErr result (self.new.comparisons ≡ self.old.comparisons) }
+        // Which room it uses, and when it fails.
+        ensures stores { Stores K.eq name item self.old self.new result }
     {
         let key = match number(&mut self.names, &mut self.heap, name) {
             Ok(key) => key,
@@ -105,15 +100,9 @@ impl<K: Eq + Hash + Drop, T, const D: usize, J: Judge<T>, S: BuildHasher> NamedH
             (push_bound D (length self.old.entries) + 1)) }
         ensures once { IfOk result (λ b. OnFalse b (RisesWithin self.old.comparisons self.new.comparisons 1)) }
         ensures sound { AreSound K.eq J.order D self.new.entries }
-        ensures room { self.old.room ≤ self.new.room + 1 }
-        ensures roomy { IsSome (lookup (K.eq name) self.old.entries) → self.new.room ≡ self.old.room }
 
-        // It can't fail if there is room, or the name has an item.
-        ensures succeeds { 0 < self.old.room → IsOk result }
-        ensures present { IsSome (lookup (K.eq name) self.old.entries) → IsOk result }
-        ensures returned { IfErr result (λ back. back ≡ (name, item)) }
-        ensures unchanged { OnErr result (self.new.entries ≡ self.old.entries) }
-        ensures uncounted { OnErr result (self.new.comparisons ≡ self.old.comparisons) }
+        // Which room it uses, and when it fails.
+        ensures stores { Stores K.eq name item self.old self.new result }
     {
         let key = match number(&mut self.names, &mut self.heap, name) {
             Ok(key) => key,
@@ -158,15 +147,9 @@ impl<K: Eq + Hash + Drop, T, const D: usize, J: Judge<T>, S: BuildHasher> NamedH
             (sink_bound D (length self.old.entries) + 1)) }
         ensures once { IfOk result (λ b. OnFalse b (RisesWithin self.old.comparisons self.new.comparisons 1)) }
         ensures sound { AreSound K.eq J.order D self.new.entries }
-        ensures room { self.old.room ≤ self.new.room + 1 }
-        ensures roomy { IsSome (lookup (K.eq name) self.old.entries) → self.new.room ≡ self.old.room }
 
-        // It can't fail if there is room, or the name has an item.
-        ensures succeeds { 0 < self.old.room → IsOk result }
-        ensures present { IsSome (lookup (K.eq name) self.old.entries) → IsOk result }
-        ensures returned { IfErr result (λ back. back ≡ (name, item)) }
-        ensures unchanged { OnErr result (self.new.entries ≡ self.old.entries) }
-        ensures uncounted { OnErr result (self.new.comparisons ≡ self.old.comparisons) }
+        // Which room it uses, and when it fails.
+        ensures stores { Stores K.eq name item self.old self.new result }
     {
         let key = match number(&mut self.names, &mut self.heap, name) {
             Ok(key) => key,
@@ -215,7 +198,7 @@ impl<K: Eq + Hash, T, const D: usize, J: Judge<T>, S: BuildHasher> NamedHeap<K, 
             → Q.equivalent name entry.0 ≡ true
             → RisesWithin self.old.comparisons self.new.comparisons (fix_bound D (length self.old.entries) at) }
         ensures sound { AreSound K.eq J.order D self.new.entries }
-        ensures room { self.old.room ≤ self.new.room }
+        ensures room { self.new.room ≡ self.old.room }
 
         // If the name has no item nothing changes.
         ensures unchanged { IfNone result (self.new ≡ self.old) }

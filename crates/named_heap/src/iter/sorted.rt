@@ -1,10 +1,10 @@
 //! The iterator that pops the entries of a heap.
 ghost use Rattle.std.specs.Prelude.{◌≡◌, ◌^◌, ◌<◌, length};
 ghost use Rattle.std.specs.Iterator.{item_count};
-ghost use Rattle.dary_heap.specs.Popping.{GivesDescending, IsPop};
+ghost use Rattle.dary_heap.specs.Popping.{GivesDescending};
 ghost use Rattle.dary_heap.specs.SizeHints.{HintsExactly};
 ghost use Rattle.named_heap.specs.Entries.{AreSound, by_item};
-ghost use Rattle.named_heap.specs.Iterating.{contents};
+ghost use Rattle.named_heap.specs.Iterating.{PopsNext};
 
 use crate::heap::NamedHeap;
 use dary_heap::sift::{ByOrd, Judge};
@@ -14,7 +14,7 @@ use std::marker::Model;
 
 /// An iterator over the entries of a heap in descending order of the items. Each `next` is a pop.
 ///
-/// [`NamedHeap::into_iter_sorted`] returns it. A clause sees it as the heap of pairs that it pops from.
+/// [`NamedHeap::into_iter_sorted`] returns it. A clause sees it as the heap that it pops from.
 ///
 /// # Examples
 ///
@@ -40,12 +40,11 @@ pub struct IntoIterSorted<
 
 impl<K: Eq + Hash, T, const D: usize, J: Judge<T>, S: BuildHasher> Model
     for IntoIterSorted<K, T, D, J, S> {
-    ghost use Rattle.dary_heap.specs.Contents.{Contents};
-    ghost use Rattle.named_heap.specs.Iterating.{contents};
+    ghost use Rattle.named_heap.specs.Entries.{Named};
 
-    ghost Value = { Contents (K × T) };
+    ghost Value = { Named K T };
 
-    ghost view = { λ it. contents it.heap };
+    ghost view = { λ it. it.heap };
 }
 
 impl<K: Eq + Hash, T, const D: usize, J: Judge<T>, S: BuildHasher> NamedHeap<K, T, D, J, S> {
@@ -66,14 +65,14 @@ impl<K: Eq + Hash, T, const D: usize, J: Judge<T>, S: BuildHasher> NamedHeap<K, 
     /// assert_eq!(rt; greatest.as_slice(), [("bob", 50), ("cal", 30)].as_slice());
     /// ```
     pub fn into_iter_sorted(self) -> IntoIterSorted<K, T, D, J, S>
-        ensures heap { result ≡ contents self }
+        ensures heap { result ≡ self }
         ensures sound { AreSound K.eq J.order D self.entries }
         ensures fits { length self.entries < 2 ^ 64 }
 
         // Calls of `next` give a greatest part of the entries in descending order of the items, each once, and up
         // to `None` all of them.
-        ensures descending { GivesDescending (by_item J.order) (IsPop (by_item J.order) D)
-            (λ heap. heap.items) result }
+        ensures descending { GivesDescending (by_item J.order) (PopsNext J.order D)
+            (λ heap. heap.entries) result }
     {
         // (`len` is called for its clauses)
         let _len = self.len();
@@ -90,16 +89,16 @@ impl<
 > Iterator for IntoIterSorted<K, T, D, J, S> {
     type Item = (K, T);
 
-    ghost next_gives = { IsPop (by_item J.order) D };
+    ghost next_gives = { PopsNext J.order D };
 
-    ghost remaining = { item_count (λ heap. heap.items) };
+    ghost remaining = { item_count (λ heap. heap.entries) };
 
     fn next(&mut self) -> Option<(K, T)> {
         self.heap.pop()
     }
 
     fn size_hint(&self) -> (usize, Option<usize>)
-        ensures { HintsExactly self.now.items result }
+        ensures { HintsExactly self.now.entries result }
     {
         let len = self.len();
         (len, Some(len))

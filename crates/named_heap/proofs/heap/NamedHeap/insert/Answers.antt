@@ -1,8 +1,8 @@
 use Rattle.dary_heap.proofs.Common.{◌≡◌, ◌+◌, ℕ, List, Option, ap, arith, if◌then◌else◌, is_some, length, sym, ◌∙◌, true≢false}
 use Rattle.indexed_heap.specs.Entries.{item_of}
 use Rattle.named_heap.proofs.Callers.{Gets-here, Gets-others}
-use Rattle.named_heap.proofs.Naming.{length_of, lookup_missing, sound_of}
-use Rattle.named_heap.proofs.Numbering.{gets_named, has_room, length_gets, length_more, lookup_key, named_gets, named_within, same_room}
+use Rattle.named_heap.proofs.Naming.{length_of, sound_of}
+use Rattle.named_heap.proofs.Numbering.{gets_named, has_room, lookup_key, named_gets, named_within, not_numbered, numbered_stores}
 use Rattle.named_heap.specs.Names.{named}
 use Rattle.named_heap.proofs.heap.NamedHeap.insert.Goals as goal
 
@@ -10,13 +10,12 @@ pub returns-in-Err-clause-sound : goal.returns-in-Err-clause-sound
 returns-in-Err-clause-sound g c =
     rw (c.in-Err.ensures.unchanged, c.number.ensures.entries) (sound_of c.self.inside.names.keys c.self.inside.heap.entries c.self.invariant g.met.K.Eq.laws)
 
-pub returns-in-Err-clause-present : goal.returns-in-Err-clause-present
-returns-in-Err-clause-present g c =
-    let missing = lookup_missing c.self.inside.names.keys c.self.inside.heap.entries c.self.invariant g.met.K.Eq.laws (g.K.PartialEq.eq c.args.name) c.in-Err.ensures.absent in
-    rw (← c.self.view_is) (λ some. sym (ap is_some missing) ∙ some)
-
-pub returns-in-Err-clause-roomy : goal.returns-in-Err-clause-roomy
-returns-in-Err-clause-roomy g c = λ some. absurd (true≢false (sym (returns-in-Err-clause-present g c some)))
+pub returns-in-Err-clause-stores : goal.returns-in-Err-clause-stores
+returns-in-Err-clause-stores g c =
+    let n = c.number.ensures in let refused = c.in-Err.ensures in
+    let stores = not_numbered g.met.K.Eq.laws c.args.name c.args.item c.self.inside.names c.number.new.names c.self.inside.heap c.number.new.heap c.self.invariant n.spare n.capacity n.keys n.entries
+    _ refused.returned refused.absent refused.succeeds refused.unchanged n.uncounted in
+    rw (← c.self.view_is) stores
 
 pub unreachable-requires : goal.unreachable-requires
 unreachable-requires g c = has_room g.met.K.Eq.laws c.args.name c.in-Ok.key c.self.inside.names.keys c.number.new.names.keys c.in-Ok.ensures.numbers c.self.inside.heap.entries c.self.invariant
@@ -46,20 +45,13 @@ returns-clause-counted g c =
     c.self.inside.heap.comparisons c.insert.new.self.comparisons (rw (c.number.ensures.entries, c.number.ensures.uncounted) at c.in-Ok-insert.ensures.counted) in
     rw (← c.self.view_is) within
 
-pub returns-clause-room : goal.returns-clause-room
-returns-clause-room g c =
-    let n = c.number.ensures in let put = c.insert.ensures in
-    let long = length_gets c.in-Ok.key c.args.item c.self.inside.heap.entries c.insert.new.self.entries c.in-Ok-insert.given (rw n.entries at c.in-Ok-insert.ensures.gets) in
-    let more = length_more g.met.K.Eq.laws c.args.name c.in-Ok.key c.self.inside.names.keys c.number.new.names.keys c.in-Ok.ensures.numbers c.self.inside.heap.entries c.self.invariant in
-    rw (← c.self.view_is) (omega (arith, long, more, n.spare, n.capacity, n.keys, put.stores.capacity, put.stores.keys))
-
-pub returns-clause-roomy : goal.returns-clause-roomy
-returns-clause-roomy g c =
-    let put = c.in-Ok-insert.ensures in let mid = c.number.new.heap.entries in
-    let len = put.len ∙ ap (λ (o : Option g.row.T.Denot). length mid + (if is_some o then 0 else 1)) put.given in
-    let same = same_room g.met.K.Eq.laws c.args.name c.in-Ok.key c.self.inside.names c.number.new.names c.in-Ok.ensures.numbers c.self.inside.heap c.number.new.heap c.insert.new.self c.self.invariant
-    c.number.ensures.kept len c.insert.ensures.stores.roomy put.stores.widened in
-    rw (← c.self.view_is) same
+pub returns-clause-stores : goal.returns-clause-stores
+returns-clause-stores g c =
+    let n = c.number.ensures in let put = c.in-Ok-insert.ensures in
+    let len = put.len ∙ ap (λ (o : Option g.row.T.Denot). length c.number.new.heap.entries + (if is_some o then 0 else 1)) put.given in
+    let stores = numbered_stores g.met.K.Eq.laws c.args.name c.args.item c.self.inside.names c.number.new.names c.self.inside.heap c.number.new.heap c.self.invariant n.spare n.capacity n.keys
+    n.entries c.in-Ok.key c.in-Ok.ensures.numbers c.insert.new.self n.kept len put.stores.capacity put.stores.keys put.stores.roomy put.stores.widened c.in-Ok-insert.given in
+    rw (← c.self.view_is) stores
 
 pub returns-clause-sound : goal.returns-clause-sound
 returns-clause-sound g c = sound_of c.number.new.names.keys c.insert.new.self.entries (invariant_of-self-2 g c) g.met.K.Eq.laws

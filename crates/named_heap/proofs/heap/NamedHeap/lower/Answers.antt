@@ -1,20 +1,19 @@
-use Rattle.dary_heap.proofs.Common.{ap, arith, is_some, sym, ◌∙◌, true≢false}
+use Rattle.dary_heap.proofs.Common.{arith, sym, true≢false}
 use Rattle.std.specs.Ordering.{flip_args}
-use Rattle.named_heap.proofs.Naming.{length_of, lookup_missing, sound_of}
-use Rattle.named_heap.proofs.Numbering.{has_room, length_more, length_raised, lookup_key, raise_named, raised_named, reached_named, same_room}
+use Rattle.named_heap.proofs.Naming.{length_of, sound_of}
+use Rattle.named_heap.proofs.Numbering.{has_room, lookup_key, not_numbered, numbered_stores, raise_named, raised_named, reached_named}
 use Rattle.named_heap.proofs.heap.NamedHeap.lower.Goals as goal
 
 pub returns-in-Err-clause-sound : goal.returns-in-Err-clause-sound
 returns-in-Err-clause-sound g c =
     rw (c.in-Err.ensures.unchanged, c.number.ensures.entries) (sound_of c.self.inside.names.keys c.self.inside.heap.entries c.self.invariant g.met.K.Eq.laws)
 
-pub returns-in-Err-clause-present : goal.returns-in-Err-clause-present
-returns-in-Err-clause-present g c =
-    let missing = lookup_missing c.self.inside.names.keys c.self.inside.heap.entries c.self.invariant g.met.K.Eq.laws (g.K.PartialEq.eq c.args.name) c.in-Err.ensures.absent in
-    rw (← c.self.view_is) (λ some. sym (ap is_some missing) ∙ some)
-
-pub returns-in-Err-clause-roomy : goal.returns-in-Err-clause-roomy
-returns-in-Err-clause-roomy g c = λ some. absurd (true≢false (sym (returns-in-Err-clause-present g c some)))
+pub returns-in-Err-clause-stores : goal.returns-in-Err-clause-stores
+returns-in-Err-clause-stores g c =
+    let n = c.number.ensures in let refused = c.in-Err.ensures in
+    let stores = not_numbered g.met.K.Eq.laws c.args.name c.args.item c.self.inside.names c.number.new.names c.self.inside.heap c.number.new.heap c.self.invariant n.spare n.capacity n.keys n.entries
+    _ refused.returned refused.absent refused.succeeds refused.unchanged n.uncounted in
+    rw (← c.self.view_is) stores
 
 pub unreachable-requires : goal.unreachable-requires
 unreachable-requires g c = has_room g.met.K.Eq.laws c.args.name c.in-Ok.key c.self.inside.names.keys c.number.new.names.keys c.in-Ok.ensures.numbers c.self.inside.heap.entries c.self.invariant
@@ -43,19 +42,12 @@ returns-clause-counted g c =
     let long = length_of c.self.inside.names.keys c.self.inside.heap.entries c.self.invariant in
     rw (← c.self.view_is) (rw long (rw (c.number.ensures.entries, c.number.ensures.uncounted) at c.in-Ok-lower.ensures.counted))
 
-pub returns-clause-room : goal.returns-clause-room
-returns-clause-room g c =
-    let n = c.number.ensures in let put = c.lower.ensures in
-    let long = length_raised g.met.K.Eq.laws c.args.name c.in-Ok.key c.self.inside.names.keys c.number.new.names.keys c.in-Ok.ensures.numbers c.self.inside.heap.entries c.self.invariant
-    (flip_args g.J.Judge.order) c.args.item c.lower.new.self.entries c.in-Ok-lower.lowered (rw n.entries at c.in-Ok-lower.ensures.lowered) (rw n.entries at c.in-Ok-lower.ensures.reached) in
-    let more = length_more g.met.K.Eq.laws c.args.name c.in-Ok.key c.self.inside.names.keys c.number.new.names.keys c.in-Ok.ensures.numbers c.self.inside.heap.entries c.self.invariant in
-    rw (← c.self.view_is) (omega (arith, long, more, n.spare, n.capacity, n.keys, put.stores.capacity, put.stores.keys))
-
-pub returns-clause-roomy : goal.returns-clause-roomy
-returns-clause-roomy g c =
-    let same = same_room g.met.K.Eq.laws c.args.name c.in-Ok.key c.self.inside.names c.number.new.names c.in-Ok.ensures.numbers c.self.inside.heap c.number.new.heap c.lower.new.self c.self.invariant
-    c.number.ensures.kept c.in-Ok-lower.ensures.len c.lower.ensures.stores.roomy c.in-Ok-lower.ensures.stores.widened in
-    rw (← c.self.view_is) same
+pub returns-clause-stores : goal.returns-clause-stores
+returns-clause-stores g c =
+    let n = c.number.ensures in let put = c.in-Ok-lower.ensures in
+    let stores = numbered_stores g.met.K.Eq.laws c.args.name c.args.item c.self.inside.names c.number.new.names c.self.inside.heap c.number.new.heap c.self.invariant n.spare n.capacity n.keys
+    n.entries c.in-Ok.key c.in-Ok.ensures.numbers c.lower.new.self n.kept put.len put.stores.capacity put.stores.keys put.stores.roomy put.stores.widened c.in-Ok-lower.lowered in
+    rw (← c.self.view_is) stores
 
 pub returns-clause-sound : goal.returns-clause-sound
 returns-clause-sound g c = sound_of c.number.new.names.keys c.lower.new.self.entries (invariant_of-self-2 g c) g.met.K.Eq.laws
