@@ -18,7 +18,7 @@ ghost use Rattle.dary_heap.specs.declared.shortest_path.PathRefusal.TheVariants.
 
 use crate::heap::{DaryHeap, TernaryHeap};
 use crate::sift::JudgesByOrd;
-use std::alloc::Global;
+use std::alloc::{AllocError, AllocFailed, Global};
 use std::cmp::Ordering;
 use work::Work;
 
@@ -91,6 +91,22 @@ pub enum PathRefusal {
     NoMemory,
     /// The cost of a walk reaches `usize::MAX`.
     CostTooLarge,
+}
+
+impl From<AllocError> for PathRefusal {
+    ghost from_gives = { λ _ refusal. refusal ≡ NoMemory };
+
+    fn from(_: AllocError) -> PathRefusal {
+        PathRefusal::NoMemory
+    }
+}
+
+impl<T: Drop> From<AllocFailed<T>> for PathRefusal {
+    ghost from_gives = { λ _ refusal. refusal ≡ NoMemory };
+
+    fn from(_: AllocFailed<T>) -> PathRefusal {
+        PathRefusal::NoMemory
+    }
 }
 
 /// Returns the least cost of a walk from one node to another, or `None` if no walk leads there.
