@@ -46,7 +46,7 @@ mod returning_place;
 /// ```
 ///
 /// Items in `Reverse` come out least first. [`with_judge`](DaryHeap::with_judge) makes a heap that compares by
-/// another [`Judge`] than [`ByOrd`], so in any order of your own.
+/// another [`Judge`] than [`ByOrd`], so in any order of your own. [`ByKey`](crate::sift::ByKey) compares by a key.
 ///
 /// ```
 /// use dary_heap::TernaryHeap;

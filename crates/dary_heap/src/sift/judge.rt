@@ -37,9 +37,10 @@ impl Count {
 
 /// What compares items: it has an order on them, and a count of the comparisons that it made.
 ///
-/// The order belongs to the type of the judge, the count to each judge. Only clauses read them. A
-/// caller may write a judge of its own: `CALLING.md` has one of two keys. Give it `#[derive(Clone, Drop)]`: `iter_sorted`
-/// clones a heap's judge, and `into_vec` and other calls that take a heap apart drop it.
+/// The order belongs to the type of the judge, the count to each judge. Only clauses read them. An order by a key needs
+/// no judge of its own, but [`ByKey`](super::ByKey). For any other order a caller writes one: `CALLING.md` has one of
+/// texts. Give it `#[derive(Clone, Drop)]`: `iter_sorted` clones a heap's judge, and `into_vec` and other calls that take
+/// a heap apart drop it.
 ///
 /// # Examples
 ///
