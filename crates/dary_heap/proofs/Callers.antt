@@ -17,7 +17,8 @@ use Rattle.std.proofs.lemmas.Cmp.{ranked, by_ranked}
 use Rattle.std.proofs.lemmas.Iterator.{IsCollectResult}
 use Rattle.std.proofs.lemmas.Fn.{filter_same}
 use Rattle.std.proofs.lemmas.List.Elements.{All-cons, All-head, All-map, All-nil, All-tail}
-use Rattle.std.proofs.lemmas.List.Sorted.{All-permutation, IsPermutation-map, IsPermutation-append_right, IsPermutation-pop_more}
+use Rattle.std.proofs.lemmas.List.Sorted.{All-permutation, IsPermutation-map, IsPermutation-append_right}
+pub use Rattle.std.proofs.lemmas.List.Sorted.{IsNonDecreasingBy-push, IsPermutation-pop_more, sum_by_popped, sum_by_pushed}
 use Rattle.std.proofs.lemmas.Iterator.Adapters.{YieldsAtMost}
 use Rattle.std.specs.BinaryHeap.{IsHeap}
 use Rattle.dary_heap.specs.TwoArities.{IsUnrefused, RunsUnrefused}
@@ -26,7 +27,7 @@ use Rattle.dary_heap.specs.Filtering.{IsRetained}
 pub use Rattle.dary_heap.proofs.Bags.{IsGreatest-stays, IsGreatest-overtaken, front_cases, Contains-cases, Contains-first, Contains-later, holds_none, has_none, came_first, came_later, came_cases}
 pub use Rattle.dary_heap.proofs.Bags.{upper_bound, upper_bound_left}
 pub use Rattle.dary_heap.proofs.Order.{not_greater-self, not_greater-trans}
-pub use Rattle.dary_heap.proofs.Cancelling.{IsPermutation-uncons}
+pub use Rattle.dary_heap.proofs.Cancelling.{IsPermutation-flat_map, IsPermutation-uncons}
 use Rattle.dary_heap.proofs.Depth.{parent-below}
 use Rattle.dary_heap.proofs.sift.Parts.{still_but_at}
 pub use Rattle.dary_heap.proofs.Popping.{none_first, pops_list, pops_descend, pops_given}
