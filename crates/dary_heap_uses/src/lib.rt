@@ -1,5 +1,5 @@
 //! Uses of the heaps, each proved from the contracts of `dary_heap` and `indexed_heap` alone. Each module begins with
-//! what it does, and `docs/PROVED.md` says what is proved of it.
+//! what it does. `README.md` has a row for each, and says how to take them along.
 #![tactic(auto)]
 
 pub mod calling;
