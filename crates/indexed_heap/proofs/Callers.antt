@@ -6,6 +6,8 @@ pub use Rattle.indexed_heap.proofs.AsMap.{none_there, one_item, item_of-absent, 
 pub use Rattle.indexed_heap.proofs.AsMap.{Loses-others, pop_loses}
 pub use Rattle.indexed_heap.proofs.Mapping.{Gets-all, Loses-all, showing, item_of-map, IsAbsent-map, Loses-map, Gets-map, AreDistinct-map, IsEntry-map, InsertsWithin-map}
 pub use Rattle.indexed_heap.proofs.Removing.{still_absent}
+pub use Rattle.indexed_heap.proofs.Along.{IsWayOf-all, IsWayOf-alone, IsWayOf-joined}
+pub use Rattle.dary_heap.proofs.shortest_path.Searching.{leads_within}
 
 -- no entry that is there has a key that is absent
 pub absent_apart : {X : Type 0} (key : ℕ) (entries : List (ℕ × X)) (entry : ℕ × X) → IsAbsent key entries → Contains entries entry → entry.0 ≢ key

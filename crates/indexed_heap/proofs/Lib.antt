@@ -15,3 +15,4 @@ pub mod Keys
 pub mod Mapping
 pub mod Filtering
 pub mod Appending
+pub mod Along
