@@ -1,5 +1,5 @@
 -- Tables that lead back: what one names from a node on is one list, of fewer nodes than the table has; and a way with an edge more.
-use Rattle.dary_heap.proofs.Common.{◌≡◌, ◌≢◌, ℕ, ◌+◌, ◌<◌, inl, inr, List, [], ◌∷◌, ◌++◌, length, get_or, set, get_or_from_slice_get, append-nil, take, drop, take-append-drop, nil_from_length, ◌-◌, append_assoc, map-append, Contains, arith, refl, sym, ap, ◌∙◌, subst, slice_get, slice_get_within, Graph, HasEdge}
+use Rattle.dary_heap.proofs.Common.{◌≡◌, ◌≢◌, ℕ, zero, suc, ◌+◌, ◌<◌, inl, inr, List, [], ◌∷◌, ◌++◌, length, get_or, set, get_or_from_slice_get, append-nil, take, drop, take-append-drop, nil_from_length, ◌-◌, append_assoc, map-append, Contains, arith, refl, sym, ap, ◌∙◌, subst, slice_get, slice_get_within, Graph, HasEdge}
 use Rattle.dary_heap.proofs.Common.{AllByRecursion, IsDistinct, IsDistinct-IsPermutation, IsDistinct-cons, nat_eq, nat_eq_equiv, ne_eqb, false}
 use Rattle.dary_heap.proofs.Bags.{Contains-cases, Contains-first, Contains-later, holds_none}
 use Rattle.dary_heap.proofs.shortest_path.Searching.{cost_more, walk_more}
@@ -135,8 +135,9 @@ module _ (before : List ℕ) (start goal : ℕ) where
             ∙ h.done;
       }
 
-  pub read_ends : (v : ℕ) (items nodes : List ℕ) → take 1 items ≡ start ∷ [] → IsReadDownTo 0 v items nodes → items ≡ reverse (goal ∷ nodes)
-  read_ends v items nodes first h =
+  pub read_ends : (place v : ℕ) (items nodes : List ℕ) → place ≡ 0 → take 1 items ≡ start ∷ [] → IsReadDownTo place v items nodes → items ≡ reverse (goal ∷ nodes)
+  read_ends (suc place) v items nodes at_end first h = absurd (omega arith)
+  read_ends zero v items nodes at_end first h =
       let none : h.rest ≡ [] = nil_from_length h.rest h.left in
       let at : v ≡ start = subst (IsNamedFrom before start v) none h.named in
       sym (take-append-drop 1 items)

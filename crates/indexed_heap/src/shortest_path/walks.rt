@@ -68,12 +68,8 @@ pub fn shortest_path_nodes(
     ensures too_large { IfErr result
         (λ refusal. refusal ≡ CostTooLarge → HasCritical usize.MAX adj_list.now.items start goal) }
 {
-    let nodes = adj_list.len();
-    let mut dist = vec![in alloc; usize::MAX; nodes].map_err(|_| PathRefusal::NoMemory)?;
-    let mut prev = vec![in alloc; start; nodes].map_err(|_| PathRefusal::NoMemory)?;
-    let mut heap = CostHeap::<4>::with_judge(alloc, LeastFirst(ByOrd::new()));
-    heap.reserve(nodes, nodes)
-        .map_err(|_| PathRefusal::NoMemory)?;
+    let room = room_for(alloc, adj_list.len()).map_err(|_| PathRefusal::NoMemory)?;
+    let (mut dist, mut prev, mut heap) = room;
     let least = shortest_paths_into(adj_list, start, goal, &mut dist, &mut prev, &mut heap)?;
     let Some(cost) = least else {
         return Ok(None);
@@ -81,6 +77,24 @@ pub fn shortest_path_nodes(
     let mut path = Vec::new(alloc);
     path_to(&prev, start, goal, &mut path).map_err(|_| PathRefusal::NoMemory)?;
     Ok(Some((cost, path)))
+}
+
+/// Returns what a search among so many nodes needs: two tables with a number for each node, and a heap with room for
+/// each node.
+fn room_for(
+    alloc: Global,
+    nodes: usize,
+) -> Result<(Vec<usize>, Vec<usize>, CostHeap<4>), AllocError>
+    ensures dist { IfOk result (λ room. length room.0.items ≡ nodes) }
+    ensures prev { IfOk result (λ room. length room.1.items ≡ nodes) }
+    ensures room { IfOk result (λ room. nodes ≤ room.2.capacity) }
+    ensures keyed { IfOk result (λ room. nodes ≤ room.2.keys) }
+{
+    let dist = vec![in alloc; 0; nodes]?;
+    let prev = vec![in alloc; 0; nodes]?;
+    let mut heap = CostHeap::<4>::with_judge(alloc, LeastFirst(ByOrd::new()));
+    heap.reserve(nodes, nodes)?;
+    Ok((dist, prev, heap))
 }
 
 /// Reads the path to a node from the table that a search made. Afterwards `nodes` has the nodes of a path from `start`

@@ -2,7 +2,7 @@ use Rattle.std.proofs.Math.Seq.{take-nil}
 use Rattle.std.proofs.lemmas.List.{take-replicate}
 use Rattle.indexed_heap.specs.Ways.{IsWayOf}
 use Rattle.dary_heap.proofs.Common.{◌∙◌, ◌++◌, ◌-◌, length-replicate, length-set, take-set-le, vec_len, ◌≡◌, ap, ℕ, ◌+◌, ◌<◌, List, length, arith, rules, refl, sym, subst, replicate, take, IsDistinct, nat_eq}
-use Rattle.indexed_heap.proofs.shortest_path.Ways.{IsReadDownTo, named_next, read_begins, read_ends, read_more, way_once}
+use Rattle.indexed_heap.proofs.shortest_path.Ways.{named_next, read_begins, read_ends, read_more, way_once}
 use Rattle.indexed_heap.proofs.shortest_path.walks.path_to.Goals as goal
 
 pub loop-steps-init : goal.loop-steps-init
@@ -44,18 +44,21 @@ offset_bounds-prev-node c =
 
 pub returns-clause-read : goal.returns-clause-read
 returns-clause-read c = λ named led.
-    let place : c.loop-steps.steps ≡ 0 = omega (arith, c.loop-steps-test.false) in
-    let read = c.loop-steps.invariant.read named led in
-    read_ends c.args.prev.now c.args.start c.args.goal c.loop-steps.node c.loop-steps.nodes.items named c.loop-steps.invariant.first
-    (subst (λ (p : ℕ). IsReadDownTo c.args.prev.now c.args.start c.args.goal p c.loop-steps.node c.loop-steps.nodes.items named) place read)
+    read_ends c.args.prev.now c.args.start c.args.goal c.loop-steps.steps c.loop-steps.node c.loop-steps.nodes.items named (omega (arith, c.loop-steps-test.false)) c.loop-steps.invariant.first
+    (c.loop-steps.invariant.read named led)
 
 pub returns-clause-way : goal.returns-clause-way
-returns-clause-way c = λ g cost led. subst (λ (l : List ℕ). IsWayOf g c.args.start c.args.goal l cost) (sym (returns-clause-read c led.nodes led.named)) led.way
+returns-clause-way c = λ g cost led.
+    let is = read_ends c.args.prev.now c.args.start c.args.goal c.loop-steps.steps c.loop-steps.node c.loop-steps.nodes.items led.nodes (omega (arith, c.loop-steps-test.false)) c.loop-steps.invariant.first
+    (c.loop-steps.invariant.read led.nodes led.named) in
+    subst (λ (l : List ℕ). IsWayOf g c.args.start c.args.goal l cost) (sym is) led.way
 
 pub returns-clause-once : goal.returns-clause-once
 returns-clause-once c =
-    let back = c.requires.back in
-    subst (λ (l : List ℕ). IsDistinct nat_eq l) (sym (returns-clause-read c back.0 back.1)) (way_once c.args.prev.now c.args.start c.args.goal back.0 back.1)
+    let named = c.requires.back.0 in
+    let is = read_ends c.args.prev.now c.args.start c.args.goal c.loop-steps.steps c.loop-steps.node c.loop-steps.nodes.items named (omega (arith, c.loop-steps-test.false)) c.loop-steps.invariant.first
+    (c.loop-steps.invariant.read named c.requires.back.1) in
+    subst (λ (l : List ℕ). IsDistinct nat_eq l) (sym is) (way_once c.args.prev.now c.args.start c.args.goal named c.requires.back.1)
 
 pub returns-clause-capacity : goal.returns-clause-capacity
 returns-clause-capacity c = c.loop-steps.invariant.capacity
