@@ -1,5 +1,5 @@
 -- An entry whose item a function changed, and not its key.
-use Rattle.dary_heap.proofs.Common.{◌≡◌, ℕ, ◌<◌, List, ◌∷◌, length, set, refl, ap, ◌∙◌, subst, Some, slice_get, IsPermutation}
+use Rattle.dary_heap.proofs.Common.{◌≡◌, ℕ, ◌<◌, List, ◌∷◌, length, set, refl, ap, ◌∙◌, subst, Some, IsPermutation}
 use Rattle.std.specs.Fn.{Once}
 use denote.Ref.{MutBor}
 use Rattle.dary_heap.specs.Path.{GoesTo}

@@ -2,8 +2,6 @@ use Rattle.dary_heap.proofs.{◌≡◌, ◌∷◌, ◌++◌, [], set, slice_get,
 use Rattle.dary_heap.proofs.{rules}
 use Rattle.dary_heap.proofs.Callers.{overwritten}
 use Rattle.dary_heap.proofs.sift.{taken_first, written_back}
-use Rattle.dary_heap.proofs.heap.DaryHeap.update_at_returning_place.Goals.{After-fix_with}
-use Rattle.dary_heap.proofs.heap.DaryHeap.update_at_returning_place.Given.{Over}
 use Rattle.dary_heap.proofs.heap.DaryHeap.update_at_returning_place.Goals as goal
 
 pub invariant_of-self : goal.invariant_of-self

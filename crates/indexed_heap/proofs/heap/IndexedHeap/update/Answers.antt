@@ -1,7 +1,7 @@
-use Rattle.dary_heap.proofs.Common.{◌≡◌, ℕ, Some, slice_get_within, arith, rules, ap, ◌∙◌}
+use Rattle.dary_heap.proofs.Common.{ℕ, slice_get_within, rules, ap, ◌∙◌}
 use Rattle.indexed_heap.specs.Entries.{IsEntry}
 use Rattle.indexed_heap.proofs.AsMap.{item_of-has}
-use Rattle.indexed_heap.proofs.Changing.{Gets-len, inserts_held}
+use Rattle.indexed_heap.proofs.Changing.{inserts_held}
 use Rattle.indexed_heap.proofs.Sound.{holds, sound}
 use Rattle.indexed_heap.proofs.Updating.{updated_gets, updated_moved}
 use Rattle.indexed_heap.proofs.heap.IndexedHeap.update.Goals as goal
