@@ -251,6 +251,20 @@ pub(crate) fn search<N: Eq + Hash + Drop, G: Expand<N>, F: Fn(&N) -> bool, S: Bu
 /// doesn't succeed.
 ///
 /// The caller's graph is borrowed, and is as before after a failure.
+///
+/// # Examples
+///
+/// ```
+/// use dary_heap::shortest_path::Edge;
+/// use graph_search::dijkstra;
+/// let from_0 = vec![in alloc; Edge { node: 1, cost: 7 }, Edge { node: 2, cost: 1 }]?;
+/// let from_2 = vec![in alloc; Edge { node: 1, cost: 3 }]?;
+/// let graph = vec![in alloc; from_0, Vec::new(alloc), from_2]?;
+/// let to = |goal: usize| dijkstra(alloc, &graph, 0, move |node: &usize| *node == goal);
+/// assert_eq!(rt; to(1), Ok(Some((4, vec![in alloc; 0, 2, 1]?))));
+/// assert_eq!(rt; to(0), Ok(Some((0, vec![in alloc; 0]?))));
+/// assert_eq!(rt; to(5), Ok(None));
+/// ```
 pub fn dijkstra<N: Eq + Hash + Drop, G: Graph<N>, F: Fn(&N) -> bool>(
     alloc: Global,
     graph: &G,
@@ -290,6 +304,20 @@ pub fn dijkstra<N: Eq + Hash + Drop, G: Graph<N>, F: Fn(&N) -> bool>(
 /// # Errors
 ///
 /// Fails if [`dijkstra`] does.
+///
+/// # Examples
+///
+/// ```
+/// use dary_heap::shortest_path::Edge;
+/// use graph_search::dijkstra_with_hasher;
+/// use std::hash::RandomState;
+/// let from_0 = vec![in alloc; Edge { node: 1, cost: 7 }, Edge { node: 2, cost: 1 }]?;
+/// let from_2 = vec![in alloc; Edge { node: 1, cost: 3 }]?;
+/// let graph = vec![in alloc; from_0, Vec::new(alloc), from_2]?;
+/// let hashers = RandomState::new(&rt)?;
+/// let found = dijkstra_with_hasher(alloc, &graph, 0, |node: &usize| *node == 1, hashers)?;
+/// assert_eq!(rt; found, Some((4, vec![in alloc; 0, 2, 1]?)));
+/// ```
 pub fn dijkstra_with_hasher<
     N: Eq + Hash + Drop,
     G: Graph<N>,
