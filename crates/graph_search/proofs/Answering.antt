@@ -1,5 +1,6 @@
 -- A search begins, takes a node, and ends: what follows then.
-use Rattle.dary_heap.proofs.Common.{◌≡◌, ◌≢◌, ◌⊎◌, ℕ, suc, ◌+◌, ◌-◌, ◌<◌, ◌≤◌, Bool, true, false, inl, inr, List, [], ◌∷◌, ◌++◌, length, Contains, Some, map, slice_get, slice_get-get_or, slice_get_within, refl, sym, ap, ◌∙◌, subst, arith, cases_eq, cases_lt, append-nil, append_assoc}
+use Rattle.dary_heap.proofs.Common.{◌≡◌, ◌≢◌, ◌⊎◌, ℕ, suc, ◌+◌, ◌-◌, ◌<◌, ◌≤◌, Bool, true, false, inl, inr, List, [], ◌∷◌}
+use Rattle.dary_heap.proofs.Common.{◌++◌, length, Contains, Some, map, slice_get, slice_get-get_or, slice_get_within, refl, sym, ap, ◌∙◌, subst, arith, cases_eq, cases_lt, append-nil, append_assoc}
 use Rattle.dary_heap.proofs.Common.{IsSameBag, IsGreatest, IsPermutation-sym, IsDistinct, IsDistinct-cons, IsDistinct-IsPermutation, AllByRecursion, nat_cmp, true≢false}
 use Rattle.dary_heap.proofs.Bags.{came_first, came_later, came_cases, holds_none}
 use Rattle.dary_heap.proofs.Callers.{nat_le_from_cmp}
@@ -347,7 +348,8 @@ module _ {N : Type 0} {edge : N → N → ℕ → Type 0} {eq : N → N → Bool
           )
         ]
 
-    read_distinct : (nodes : List N) (k : ℕ) (first : N) (was : Reached) → IsTaken t.names t.reached taken 0 first was → AreReadBack t.names t.reached taken k nodes 0 → IsDistinct eq (nodes ++ first ∷ [])
+    read_distinct : (nodes : List N) (k : ℕ) (first : N) (was : Reached) → IsTaken t.names t.reached taken 0 first was → AreReadBack t.names t.reached taken k nodes 0 →
+        IsDistinct eq (nodes ++ first ∷ [])
     unfolding IsDistinct
     read_distinct [] k first was begins back = IsDistinct-cons eq first [] tt tt
     read_distinct (u ∷ nodes) k first was begins back =

@@ -7,7 +7,8 @@ use Rattle.graph_search.specs.Keys.{IsKey, steps_by}
 use Rattle.graph_search.specs.Walk.{IsWalk, IsWayToGoal, Keeps, Lists}
 
 -- the edges listed are the steps that leave the node's key
-pub lists_by_key : {N K : Type 0} {eq : N → N → Bool} {key : N → K} → IsKey eq key → (steps : K → List (K × ℕ)) → (node : N) (edges : List (N × ℕ)) → map (λ e. (key e.0, e.1)) edges ≡ steps (key node) →
+pub lists_by_key : {N K : Type 0} {eq : N → N → Bool} {key : N → K} → IsKey eq key → (steps : K → List (K × ℕ)) → (node : N) (edges : List (N × ℕ)) →
+    map (λ e. (key e.0, e.1)) edges ≡ steps (key node) →
     Lists eq (steps_by key steps node) edges
 lists_by_key {N} {K} {eq} {key} is steps node edges listed =
     let step_of : N × ℕ → K × ℕ = λ e. (key e.0, e.1) in

@@ -1,5 +1,6 @@
 -- A node is found: its number, and what is noted of it.
-use Rattle.dary_heap.proofs.Common.{◌≡◌, ◌⊎◌, ℕ, ◌+◌, ◌<◌, ◌≤◌, Bool, inl, inr, List, [], ◌∷◌, ◌++◌, length, Contains, Option, Some, slice_get, slice_get_within, sym, ap, ◌∙◌, subst, arith, cases_eq, length-append}
+use Rattle.dary_heap.proofs.Common.{◌≡◌, ◌⊎◌, ℕ, ◌+◌, ◌<◌, ◌≤◌, Bool, inl, inr, List, [], ◌∷◌, ◌++◌}
+use Rattle.dary_heap.proofs.Common.{length, Contains, Option, Some, slice_get, slice_get_within, sym, ap, ◌∙◌, subst, arith, cases_eq, length-append}
 use Rattle.dary_heap.proofs.Order.{slice_get-append}
 use Rattle.std.specs.List.{IsDistinct}
 use Rattle.indexed_heap.proofs.Callers.{one_item}

@@ -115,7 +115,8 @@ module _ {N : Type 0} {is_node : N → Type 0} {edge : N → N → ℕ → Type 
         stuck_guided at =
             let next = at.next in
             let t = true_walk start at.walk at.node next.leads in
-            let dear : HasEdgeBeyond (reduced edge estimate at.node) 18446744073709551615 (cost_of at.walk) → HasEdgeBeyond (with_estimate edge estimate at.node) (18446744073709551615 + estimate start) (cost_of t.steps) =
+            let dear : HasEdgeBeyond (reduced edge estimate at.node) 18446744073709551615 (cost_of at.walk) →
+            HasEdgeBeyond (with_estimate edge estimate at.node) (18446744073709551615 + estimate start) (cost_of t.steps) =
             λ e. record { next = e.next; step = e.leaves.0 + estimate e.next; leaves = (e.leaves.0, e.leaves.1, refl); too_large = omega (arith, e.too_large, e.leaves.2, t.costs) } in
             record {
               node = at.node;

@@ -1,5 +1,7 @@
 -- What holds of a search as nodes are taken and found, and what follows from it.
-use Rattle.dary_heap.proofs.Common.{◌≡◌, ◌≢◌, ◌⊎◌, ℕ, ◌+◌, ◌<◌, ◌≤◌, Bool, true, false, inl, inr, List, [], ◌∷◌, ◌++◌, length, Contains, Option, Some, slice_get, get_or, get_or_from_slice_get, slice_get_within, slice_get_cases, refl, sym, ap, ◌∙◌, subst, arith, cases_eq, cases_lt, length-append}
+use Rattle.dary_heap.proofs.Common.{◌≡◌, ◌≢◌, ◌⊎◌, ℕ, ◌+◌, ◌<◌, ◌≤◌, Bool, true, false, inl, inr, List, [], ◌∷◌, ◌++◌, length}
+use Rattle.dary_heap.proofs.Common.{Contains, Option, Some, slice_get, get_or, get_or_from_slice_get, slice_get_within, slice_get_cases}
+use Rattle.dary_heap.proofs.Common.{refl, sym, ap, ◌∙◌, subst, arith, cases_eq, cases_lt, length-append}
 use Rattle.dary_heap.proofs.Common.{Contains-push, Contains-push_cases, Contains-append_left}
 use Rattle.dary_heap.proofs.Bags.{holds_none}
 use Rattle.dary_heap.proofs.Order.{slice_get-append, slice_get-push}
@@ -303,7 +305,8 @@ module _ {N : Type 0} {edge : N → N → ℕ → Type 0} {eq : N → N → Bool
       }
 
   -- no edge is left
-  pub relaxing_ends : {t : Tables N} {taken : List ℕ} {place cost : ℕ} {node : N} → IsRelaxing edge eq says start limit t taken place cost node [] → IsSearch edge eq says start limit t taken (place + 1) cost
+  pub relaxing_ends : {t : Tables N} {taken : List ℕ} {place cost : ℕ} {node : N} → IsRelaxing edge eq says start limit t taken place cost node [] →
+      IsSearch edge eq says start limit t taken (place + 1) cost
   relaxing_ends {t} {taken} {place} {cost} {node} R =
       let S = R.search in
       record {

@@ -3,7 +3,8 @@ use Rattle.std.proofs.lemmas.Result.{err_from_is_err_and}
 use Rattle.std.specs.Fn.{FnReturnsAt}
 use Rattle.dary_heap.proofs.Bags.{has_none}
 use Rattle.dary_heap.specs.declared.shortest_path.PathRefusal.TheVariants.{CostTooLarge}
-use Rattle.graph_search.proofs.Answering.{cheap_below, low_of, no_goal, none_critical, pushed_at, refused_below, search_at, search_begins, search_pushed, stuck, taken_costs, taken_name, traced, way_distinct, way_read}
+use Rattle.graph_search.proofs.Answering.{cheap_below, low_of, no_goal, none_critical, pushed_at, refused_below, search_at}
+use Rattle.graph_search.proofs.Answering.{search_begins, search_pushed, stuck, taken_costs, taken_name, traced, way_distinct, way_read}
 use Rattle.graph_search.specs.Searching.{AreTraced, HasStuck, IsReadOff}
 use Rattle.graph_search.specs.declared.search.Found.{Found}
 use Rattle.graph_search.proofs.search.search.Goals as goal
@@ -56,7 +57,8 @@ returns-in_err-at_goal-clause-too_large g c =
     let costs = taken_costs c.in-Some.number c.in-Some.cost c.pop.new.self.entries S pop.bag pop.gone low in
     let node = taken_name c.in-Some.number c.in-Some.cost c.pop.new.self.entries S pop.bag pop.gone low in
     let large = c.in_err-at_goal.ensures.too_large c.in-Some.number node.0 there node.1 in
-    let fatal : c.in_err-at_goal.field-0.0 ≡ CostTooLarge → HasStuck (g.G.Expand.edge c.args.graph.now) (g.G.Expand.refuses c.args.graph.now) g.N.PartialEq.eq (FnReturnsAt g.F.Fn c.args.is_goal) c.args.start 18446744073709551615 =
+    let fatal : c.in_err-at_goal.field-0.0 ≡ CostTooLarge →
+    HasStuck (g.G.Expand.edge c.args.graph.now) (g.G.Expand.refuses c.args.graph.now) g.N.PartialEq.eq (FnReturnsAt g.F.Fn c.args.is_goal) c.args.start 18446744073709551615 =
     λ is. stuck g.met.N.Eq.laws (g.met.G.Expand.alike c.args.graph.now) S c.in-Some.number c.in-Some.cost node.0 costs node.1 low (large is) in
     let failed = err_from_is_err_and c.from_residual-in_err-at_goal.result c.from_residual-in_err-at_goal.ensures.1 in
     rw failed.1 (λ is. fatal (cc (failed.2, is)))
