@@ -7,5 +7,5 @@ returns-clause-changed g c =
 
 pub invariant_of-self : goal.invariant_of-self
 invariant_of-self g c =
-    numbered_either c.args.id c.args.priority c.self.inside.jobs c.update.new.self c.self.inside.came c.update.result (rw (← c.self.view_is) at (returns-clause-changed g c))
-    c.update.ensures.unchanged c.self.invariant
+    numbered_either c.args.id c.args.priority c.self.inside.jobs c.update.new.self c.self.inside.came c.update.result
+    (reprioritised c.args.id c.args.priority c.self.inside.jobs c.update.new.self c.update.result (λ held left called. search rules) c.update.ensures.updates) c.update.ensures.unchanged c.self.invariant
