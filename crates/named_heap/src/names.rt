@@ -1,5 +1,5 @@
 //! Names with their numbers, which are the keys of a heap's entries: what a call does to both.
-ghost use Rattle.std.specs.Prelude.{◌≡◌, ◌+◌, ◌<◌, ◌≤◌, true, false, length, slice_get, Some, IsOk, IfErr, IfOk, OnErr};
+ghost use Rattle.std.specs.Prelude.{◌≡◌, ◌+◌, ◌<◌, ◌≤◌, true, false, length, slice_get, Some, IsOk, IfErr, IfOk, OnErr, OnOk};
 ghost use Rattle.std.specs.List.{IsDistinct, list_any};
 ghost use Rattle.indexmap.specs.IndexSet.{spare};
 ghost use Rattle.named_heap.specs.Names.{AreNamed, AreNamedBut, HasRoomFor, Numbers, named, room_of};
@@ -7,6 +7,7 @@ ghost use Rattle.named_heap.specs.Names.{AreNamed, AreNamedBut, HasRoomFor, Numb
 use dary_heap::sift::Judge;
 use indexed_heap::IndexedHeap;
 use indexmap::IndexSet;
+use std::alloc::AllocError;
 use std::hash::{BuildHasher, Hash};
 
 /// Takes a name out whose number has no entry any more. The last name gets its number.
@@ -32,6 +33,25 @@ pub(crate) fn free<K: Eq + Hash, T, const D: usize, J: Judge<T>, S: BuildHasher>
     };
     heap.rename(names.len(), key);
     name
+}
+
+/// Makes room for one more entry, and for the places of so many numbers. It calls nothing if there is room.
+#[inline(always)]
+fn ensure_room<T, const D: usize, J: Judge<T>>(
+    heap: &mut IndexedHeap<T, D, J>,
+    numbers: usize,
+) -> Result<(), AllocError>
+    ensures room { OnOk result ((length heap.new.entries < heap.new.capacity) × (numbers ≤ heap.new.keys)) }
+    ensures entries { heap.new.entries ≡ heap.old.entries }
+    ensures succeeds { length heap.old.entries < heap.old.capacity → numbers ≤ heap.old.keys → IsOk result }
+    ensures capacity { heap.old.capacity ≤ heap.new.capacity }
+    ensures keys { heap.old.keys ≤ heap.new.keys }
+    ensures uncounted { heap.new.comparisons ≡ heap.old.comparisons }
+{
+    if heap.len() < heap.capacity() && numbers <= heap.key_capacity() {
+        return Ok(());
+    }
+    heap.reserve(1, numbers)
 }
 
 /// Returns the number of a name, which is new if no name is equal: the heap has room for its entry then. If it fails, the
@@ -60,7 +80,7 @@ pub(crate) fn number<K: Eq + Hash + Drop, T, const D: usize, J: Judge<T>, S: Bui
     if let Some(key) = names.get_index_of(&name) {
         return Ok(key);
     }
-    if heap.reserve(1, names.len() + 1).is_err() {
+    if ensure_room(heap, names.len() + 1).is_err() {
         return Err(name);
     }
     match names.insert_full(name) {
