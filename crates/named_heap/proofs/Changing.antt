@@ -2,6 +2,7 @@
 use Rattle.dary_heap.proofs.Common.{◌≡◌, ℕ, Bool, true, false, List, length, refl, sym, ap, ◌∙◌, inl, Option, Some, None, is_some, slice_get}
 use Rattle.dary_heap.proofs.Common.{slice_get_within, Ordering, RisesWithin, fix_bound, true≢false}
 use Rattle.std.proofs.Common.{position}
+use Rattle.std.specs.Bool.{OnFalse}
 use Rattle.std.specs.Cmp.{IsEquivalence}
 use Rattle.std.specs.Map.{IsKeyTest, lookup}
 use Rattle.indexed_heap.proofs.AsMap.{Gets-here, item_of-absent}
@@ -34,6 +35,11 @@ module _ {K T : Type 0} {eq : K → K → Bool} {cmp : T → T → Ordering} {D 
 
   absent_there : IsAbsent key old → ⊥
   absent_there none = true≢false (ap is_some (sym item_there.1 ∙ item_of-absent key old none))
+
+  -- what says whether it has an item says that it has
+  pub is_found : (result : Bool) → OnFalse result (IsAbsent key old) → result ≡ true
+  is_found true none = refl
+  is_found false none = absurd (absent_there none)
 
   pub had : lookup test (named names old) ≡ item_of key old
   had = lookup_found names old h laws test keyed key found

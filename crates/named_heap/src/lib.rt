@@ -2,7 +2,7 @@
 //!
 //! It serves jobs, sessions or timers that go by a text, a pair or an id, where an `IndexedHeap` takes small numbers.
 //! [`NamedHeap::pop`] returns a greatest item with its name. [`NamedHeap::insert`], [`raise`](NamedHeap::raise),
-//! [`change`](NamedHeap::change) and [`remove`](NamedHeap::remove) act on one name, and cost a look-up in a hash table and
+//! [`update`](NamedHeap::update) and [`remove`](NamedHeap::remove) act on one name, and cost a look-up in a hash table and
 //! about as much as a push or a pop. What takes memory takes an allocator or keeps the one that it was made with, and
 //! returns a `Result`.
 //!
@@ -43,7 +43,7 @@
 //! | method | comparisons, at most |
 //! |---|---|
 //! | [`insert`](NamedHeap::insert) of a name without an item | the depth of the new place: *O*(log *n*) |
-//! | [`insert`](NamedHeap::insert) of a name with an item, [`change`](NamedHeap::change) | the depth of its place, and `D` for each level from there down to that of the last place |
+//! | [`insert`](NamedHeap::insert) of a name with an item, [`change`](NamedHeap::change), [`update`](NamedHeap::update) | the depth of its place, and `D` for each level from there down to that of the last place |
 //! | [`raise`](NamedHeap::raise) | one more than the depth of a new place |
 //! | [`lower`](NamedHeap::lower) | one more than `D` times the depth of the last place |
 //! | [`pop`](NamedHeap::pop), [`pop_if`](NamedHeap::pop_if), [`remove`](NamedHeap::remove) | `D` times the depth of the last place that remains: *O*(log *n*) |

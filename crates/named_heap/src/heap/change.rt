@@ -1,12 +1,13 @@
 //! Calls that give a name an item.
-ghost use Rattle.std.specs.Prelude.{◌≡◌, ℕ, ◌+◌, true, false, length, slice_get, is_some, IfSome, IfNone, IfOk, OnOk, Some, if◌then◌else◌};
+ghost use Rattle.std.specs.Prelude.{◌≡◌, ℕ, ◌+◌, true, false, length, slice_get, is_some, IfSome, IfNone, IfOk, OnOk, Some, None, if◌then◌else◌};
 ghost use Rattle.std.specs.Bool.{OnTrue, OnFalse};
-ghost use Rattle.std.specs.Fn.{FnOnceReturnsAt, FnOnceTakesAt};
+ghost use Rattle.std.specs.Fn.{FnOnceReturnsAt, FnOnceTakesAt, FnOnceTakesAtMut};
 ghost use Rattle.std.specs.Map.{lookup};
 ghost use Rattle.std.specs.Ordering.{flip_args};
 ghost use Rattle.dary_heap.specs.Bounds.{RisesWithin, fix_bound, push_bound, sink_bound};
 ghost use Rattle.named_heap.specs.Entries.{AreSound, Changes, Gets, InsertsWithin, IsReached, Raises};
 ghost use Rattle.named_heap.specs.Storing.{Stores};
+ghost use Rattle.named_heap.specs.Updating.{Updates};
 
 use super::NamedHeap;
 use crate::names::number;
@@ -207,5 +208,49 @@ impl<K: Eq + Hash, T, const D: usize, J: Judge<T>, S: BuildHasher> NamedHeap<K, 
             return None;
         };
         self.heap.change(key, f)
+    }
+
+    /// Changes the item of a name by a function, inside the heap. Returns `true` if the name has an item. If it has none, the
+    /// function isn't called, and nothing changes.
+    ///
+    /// The function is called once, and may leave any item. No other entry changes, and no room is used, so the call doesn't
+    /// fail. It takes at most as many comparisons as [`change`](NamedHeap::change).
+    ///
+    /// # Preconditions
+    ///
+    /// - If the name has an item, `f` may be called on it.
+    ///
+    /// # Examples
+    ///
+    /// ```
+    /// use named_heap::NamedHeap;
+    /// let mut visits = NamedHeap::<_, _, 4>::new(alloc);
+    /// visits.insert("ann", 1)?;
+    /// visits.insert("bob", 2)?;
+    /// assert!(rt; visits.update("ann", |count| *count += 5));
+    /// assert!(rt; !visits.update("eve", |count| *count += 5));
+    /// assert_eq!(rt; visits.pop(), Some(("ann", 6)));
+    /// ```
+    pub fn update<Q: Equivalent<K>, F: FnOnce(&mut T)>(&mut self, name: Q, f: F) -> bool
+        requires { (item : T) → lookup (Q.equivalent name) self.old.entries ≡ Some item
+            → FnOnceTakesAtMut F.FnOnce f item }
+        ensures updates { OnTrue result
+            (Updates F.FnOnce f (Q.equivalent name) self.old.entries self.new.entries) }
+        ensures absent { OnFalse result (lookup (Q.equivalent name) self.old.entries ≡ None) }
+        ensures others { (other : K) → Q.equivalent name other ≡ false
+            → lookup (K.eq other) self.new.entries ≡ lookup (K.eq other) self.old.entries }
+        ensures counted { (at : ℕ) (entry : K × T) → slice_get self.old.entries at ≡ Some entry
+            → Q.equivalent name entry.0 ≡ true
+            → RisesWithin self.old.comparisons self.new.comparisons (fix_bound D (length self.old.entries) at) }
+        ensures sound { AreSound K.eq J.order D self.new.entries }
+        ensures room { self.new.room ≡ self.old.room }
+
+        // If the name has no item nothing changes.
+        ensures unchanged { OnFalse result (self.new ≡ self.old) }
+    {
+        let Some(key) = self.names.get_index_of(name) else {
+            return false;
+        };
+        self.heap.update(key, f)
     }
 }
