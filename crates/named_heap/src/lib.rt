@@ -31,7 +31,7 @@
 //! ages.insert(String::from_str(alloc, "ann")?, 30)?;
 //! assert_eq!(rt; ages.get("ann"), Some(&30));
 //! assert_eq!(rt; ages.change("ann", |age| age + 1), Some(30));
-//! assert!(rt; !ages.contains("bob"));
+//! assert!(rt; !ages.contains_key("bob"));
 //! ```
 //!
 //! # Costs

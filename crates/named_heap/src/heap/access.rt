@@ -37,10 +37,10 @@ impl<K: Eq + Hash, T, const D: usize, J: Judge<T>, S: BuildHasher> NamedHeap<K, 
     /// use named_heap::NamedHeap;
     /// let mut heap = NamedHeap::<_, _, 4>::new(alloc);
     /// heap.insert(7, "wash")?;
-    /// assert!(rt; heap.contains(&7));
-    /// assert!(rt; !heap.contains(&8));
+    /// assert!(rt; heap.contains_key(&7));
+    /// assert!(rt; !heap.contains_key(&8));
     /// ```
-    pub fn contains<Q: Equivalent<K>>(&self, name: Q) -> bool
+    pub fn contains_key<Q: Equivalent<K>>(&self, name: Q) -> bool
         ensures { result ≡ is_some (lookup (Q.equivalent name) self.now.entries) }
     {
         self.get(name).is_some()
